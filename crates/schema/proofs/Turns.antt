@@ -4,6 +4,7 @@ use mathlib.Core.Path.{_≡_, refl, sym, ap, _∙_}
 use mathlib.Core.List.{List}
 use native.Mathlib.Omega.{arith}
 use lib.ListN.{length}
+use Rattle.basis.specs.declared.Mode.{Mode}
 use Rattle.basis.specs.declared.Spot.{Spot}
 use Rattle.basis.specs.declared.Spot.the-variants.{Nowhere, At}
 use Rattle.basis.specs.Spot.{orElse}
@@ -31,70 +32,70 @@ plus-plus : (n m : ℕ) (r : Counted) → plus n (plus m r) ≡ plus (n + m) r
 plus-plus n m (Records x) = ap Records (omega arith)
 plus-plus n m (Refused why) = refl
 
-module _ (k : Kind) (s : List ℕ) (at n : ℕ) where
+module _ (mode : Mode) (k : Kind) (s : List ℕ) (at n : ℕ) where
   abbrev going : Fields → Counted
-  going w = plus n (countAlong counted k s w)
+  going w = plus n (countAlong (counted mode) k s w)
 
-  pub count-done : length s ≤ at → going (walkAt s at) ≡ Records n
-  count-done h = ap going (walk-end s at h) ∙ ap Records (omega arith)
+  pub count-done : length s ≤ at → going (walkAt mode s at) ≡ Records n
+  count-done h = ap going (walk-end mode s at h) ∙ ap Records (omega arith)
 
-  pub count-end : step.End ≡ readField s at → going (walkAt s at) ≡ Records n
-  count-end h = ap going (walk-on s at step.End h) ∙ ap Records (omega arith)
+  pub count-end : step.End ≡ readField mode s at → going (walkAt mode s at) ≡ Records n
+  count-end h = ap going (walk-on mode s at step.End h) ∙ ap Records (omega arith)
 
-  pub count-refused : (why : WireError) → step.Refused why ≡ readField s at → going (walkAt s at) ≡ Refused why
-  count-refused why h = ap going (walk-on s at (step.Refused why) h)
+  pub count-refused : (why : WireError) → step.Refused why ≡ readField mode s at → going (walkAt mode s at) ≡ Refused why
+  count-refused why h = ap going (walk-on mode s at (step.Refused why) h)
 
-  on-field : (f : Field) (c : Counted) → step.At f ≡ readField s at → fieldCount k s f ≡ c → going (walkAt s at) ≡ plus n (andThen c (countAlong counted k s (walkAt s (f .next))))
+  on-field : (f : Field) (c : Counted) → step.At f ≡ readField mode s at → fieldCount mode k s f ≡ c → going (walkAt mode s at) ≡ plus n (andThen c (countAlong (counted mode) k s (walkAt mode s (f .next))))
   unfolding fieldCount
-  on-field f c h g = ap going (walk-on s at (step.At f) h) ∙ ap (λ (x : Counted). plus n (andThen x (countAlong counted k s (walkAt s (f .next))))) g
+  on-field f c h g = ap going (walk-on mode s at (step.At f) h) ∙ ap (λ (x : Counted). plus n (andThen x (countAlong (counted mode) k s (walkAt mode s (f .next))))) g
 
-  pub field-refused : (f : Field) (why : WireError) → step.At f ≡ readField s at → fieldCount k s f ≡ Refused why → going (walkAt s at) ≡ Refused why
+  pub field-refused : (f : Field) (why : WireError) → step.At f ≡ readField mode s at → fieldCount mode k s f ≡ Refused why → going (walkAt mode s at) ≡ Refused why
   field-refused f why h g = on-field f (Refused why) h g
 
-  pub count-turn : (f : Field) (m : ℕ) → step.At f ≡ readField s at → fieldCount k s f ≡ Records m → going (walkAt s at) ≡ plus (n + m) (countAlong counted k s (walkAt s (f .next)))
-  count-turn f m h g = on-field f (Records m) h g ∙ plus-plus n m (countAlong counted k s (walkAt s (f .next)))
+  pub count-turn : (f : Field) (m : ℕ) → step.At f ≡ readField mode s at → fieldCount mode k s f ≡ Records m → going (walkAt mode s at) ≡ plus (n + m) (countAlong (counted mode) k s (walkAt mode s (f .next)))
+  count-turn f m h g = on-field f (Records m) h g ∙ plus-plus n m (countAlong (counted mode) k s (walkAt mode s (f .next)))
 
 -- ---- the place of a refusal, from `at` on
-module _ (k : Kind) (s : List ℕ) (at : ℕ) where
+module _ (mode : Mode) (k : Kind) (s : List ℕ) (at : ℕ) where
   abbrev seeking : Fields → Spot
-  seeking w = spotAlong spotIn k s w
+  seeking w = spotAlong (spotIn mode) k s w
 
-  pub spot-done : length s ≤ at → seeking (walkAt s at) ≡ Nowhere
-  spot-done h = ap seeking (walk-end s at h)
+  pub spot-done : length s ≤ at → seeking (walkAt mode s at) ≡ Nowhere
+  spot-done h = ap seeking (walk-end mode s at h)
 
-  pub spot-end : step.End ≡ readField s at → seeking (walkAt s at) ≡ Nowhere
-  spot-end h = ap seeking (walk-on s at step.End h)
+  pub spot-end : step.End ≡ readField mode s at → seeking (walkAt mode s at) ≡ Nowhere
+  spot-end h = ap seeking (walk-on mode s at step.End h)
 
-  pub spot-refused : (why : WireError) → step.Refused why ≡ readField s at → seeking (walkAt s at) ≡ spotOf why
-  spot-refused why h = ap seeking (walk-on s at (step.Refused why) h)
+  pub spot-refused : (why : WireError) → step.Refused why ≡ readField mode s at → seeking (walkAt mode s at) ≡ spotOf why
+  spot-refused why h = ap seeking (walk-on mode s at (step.Refused why) h)
 
-  on-spot : (f : Field) (x : Spot) → step.At f ≡ readField s at → fieldSpot k s f ≡ x
-      → seeking (walkAt s at) ≡ orElse x (seeking (walkAt s (f .next)))
+  on-spot : (f : Field) (x : Spot) → step.At f ≡ readField mode s at → fieldSpot mode k s f ≡ x
+      → seeking (walkAt mode s at) ≡ orElse x (seeking (walkAt mode s (f .next)))
   unfolding fieldSpot
-  on-spot f x h g = ap seeking (walk-on s at (step.At f) h)
-      ∙ ap (λ (y : Spot). orElse y (seeking (walkAt s (f .next)))) g
+  on-spot f x h g = ap seeking (walk-on mode s at (step.At f) h)
+      ∙ ap (λ (y : Spot). orElse y (seeking (walkAt mode s (f .next)))) g
 
   found : (x later : Spot) (o a b c : ℕ) → x ≡ At o a b c → orElse x later ≡ x
   found x later o a b c e = rw e
 
-  pub spot-found : (f : Field) (x : Spot) (o a b c : ℕ) → step.At f ≡ readField s at → x ≡ fieldSpot k s f
-      → x ≡ At o a b c → seeking (walkAt s at) ≡ x
-  spot-found f x o a b c h g e = on-spot f x h (sym g) ∙ found x (seeking (walkAt s (f .next))) o a b c e
+  pub spot-found : (f : Field) (x : Spot) (o a b c : ℕ) → step.At f ≡ readField mode s at → x ≡ fieldSpot mode k s f
+      → x ≡ At o a b c → seeking (walkAt mode s at) ≡ x
+  spot-found f x o a b c h g e = on-spot f x h (sym g) ∙ found x (seeking (walkAt mode s (f .next))) o a b c e
 
-  pub spot-turn : (f : Field) (x : Spot) → step.At f ≡ readField s at → x ≡ fieldSpot k s f → x ≡ Nowhere
-      → seeking (walkAt s at) ≡ seeking (walkAt s (f .next))
-  spot-turn f x h g e = on-spot f x h (sym g) ∙ ap (λ (y : Spot). orElse y (seeking (walkAt s (f .next)))) e
+  pub spot-turn : (f : Field) (x : Spot) → step.At f ≡ readField mode s at → x ≡ fieldSpot mode k s f → x ≡ Nowhere
+      → seeking (walkAt mode s at) ≡ seeking (walkAt mode s (f .next))
+  spot-turn f x h g e = on-spot f x h (sym g) ∙ ap (λ (y : Spot). orElse y (seeking (walkAt mode s (f .next)))) e
 
 -- ---- the slots: t before the place `at`
-module _ (k : Kind) (s : List ℕ) (at : ℕ) (t : Slots) where
-  pub slots-done : length s ≤ at → slotsAlong k t (walkAt s at) ≡ t
-  slots-done h = ap (slotsAlong k t) (walk-end s at h)
+module _ (mode : Mode) (k : Kind) (s : List ℕ) (at : ℕ) (t : Slots) where
+  pub slots-done : length s ≤ at → slotsAlong k t (walkAt mode s at) ≡ t
+  slots-done h = ap (slotsAlong k t) (walk-end mode s at h)
 
-  pub slots-end : step.End ≡ readField s at → slotsAlong k t (walkAt s at) ≡ t
-  slots-end h = ap (slotsAlong k t) (walk-on s at step.End h)
+  pub slots-end : step.End ≡ readField mode s at → slotsAlong k t (walkAt mode s at) ≡ t
+  slots-end h = ap (slotsAlong k t) (walk-on mode s at step.End h)
 
-  pub slots-refused : (why : WireError) → step.Refused why ≡ readField s at → slotsAlong k t (walkAt s at) ≡ t
-  slots-refused why h = ap (slotsAlong k t) (walk-on s at (step.Refused why) h)
+  pub slots-refused : (why : WireError) → step.Refused why ≡ readField mode s at → slotsAlong k t (walkAt mode s at) ≡ t
+  slots-refused why h = ap (slotsAlong k t) (walk-on mode s at (step.Refused why) h)
 
-  pub slots-turn : (f : Field) (u : Slots) → step.At f ≡ readField s at → u ≡ withField k t f → slotsAlong k t (walkAt s at) ≡ slotsAlong k u (walkAt s (f .next))
-  slots-turn f u h d = ap (slotsAlong k t) (walk-on s at (step.At f) h) ∙ ap (λ (x : Slots). slotsAlong k x (walkAt s (f .next))) (sym d)
+  pub slots-turn : (f : Field) (u : Slots) → step.At f ≡ readField mode s at → u ≡ withField k t f → slotsAlong k t (walkAt mode s at) ≡ slotsAlong k u (walkAt mode s (f .next))
+  slots-turn f u h d = ap (slotsAlong k t) (walk-on mode s at (step.At f) h) ∙ ap (λ (x : Slots). slotsAlong k x (walkAt mode s (f .next))) (sym d)

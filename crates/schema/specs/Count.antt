@@ -4,6 +4,7 @@ use Prim.Native.Nat.{ℕ, _+_, _≤_}
 use mathlib.Core.List.{List}
 use mathlib.Core.Bool.{cond}
 use lib.ListN.{length}
+use Rattle.basis.specs.declared.Mode.{Mode}
 use Rattle.utf8.specs.Utf8.{isUtf8}
 use Rattle.protobuf.specs.declared.Field.{Field}
 use Rattle.protobuf.specs.declared.WireError.the-variants.{InvalidUtf8}
@@ -52,12 +53,12 @@ countAlong sub k s (refused why) = Refused why
 countAlong sub k s (f then w) = andThen (roleCount sub s f (roleOf k (f .field) (f .«wire_type»)))
     (countAlong sub k s w)
 
-abbrev pub countStep : (Kind → List ℕ → Counted) → Kind → List ℕ → Counted
-countStep sub k s = countAlong sub k s (fieldsOf s)
+abbrev pub countStep : Mode → (Kind → List ℕ → Counted) → Kind → List ℕ → Counted
+countStep mode sub k s = countAlong sub k s (fieldsOf mode s)
 
-unfoldable pub counted : Kind → List ℕ → Counted
-counted k s = overKinds countStep (Records 0) k s
+unfoldable pub counted : Mode → Kind → List ℕ → Counted
+counted mode k s = overKinds (countStep mode) (Records 0) k s
 
 -- one field of a message of kind k
-unfoldable pub fieldCount : Kind → List ℕ → Field → Counted
-fieldCount k s f = roleCount counted s f (roleOf k (f .field) (f .«wire_type»))
+unfoldable pub fieldCount : Mode → Kind → List ℕ → Field → Counted
+fieldCount mode k s f = roleCount (counted mode) s f (roleOf k (f .field) (f .«wire_type»))

@@ -5,6 +5,7 @@ use mathlib.Core.Path.{_≡_, refl, sym, ap, ap₂, _∙_}
 use mathlib.Core.List.{List}
 use native.Mathlib.Omega.{arith}
 use lib.ListN.{length, drop, length-take}
+use Rattle.basis.specs.declared.Mode.{Mode}
 use Rattle.basis.specs.Cases.{either, clash}
 use Rattle.utf8.specs.Utf8.{isUtf8}
 use Rattle.protobuf.specs.declared.Field.{Field}
@@ -45,9 +46,9 @@ same-along f g k s (x then w) h =
     (λ j form p e. h j p (sub-rank k j form (x .field) (x .«wire_type») e)))
     (same-along f g k s w h)
 
-pub count-along : (k : Kind) (s : List ℕ) → counted k s ≡ countAlong counted k s (fieldsOf s)
+pub count-along : (mode : Mode) (k : Kind) (s : List ℕ) → counted mode k s ≡ countAlong (counted mode) k s (fieldsOf mode s)
 unfolding counted
-count-along k s = unfolds countStep (Records 0) (λ f g j p h. same-along f g j p (fieldsOf p) h) k s
+count-along mode k s = unfolds (countStep mode) (Records 0) (λ f g j p h. same-along f g j p (fieldsOf mode p) h) k s
 
 -- ---- a message has no more records than bytes
 pub own-one : (k : Kind) → ownOf k ≤ 1
@@ -100,28 +101,28 @@ then-fits (Records x) (Refused why) n h = clash (cc)
 then-fits (Refused why) b n h = clash (cc)
 
 -- along the walk, where submessages keep to it
-walk-fits : (k : Kind) (s : List ℕ) → ((j : Kind) (p : List ℕ) (x : ℕ) → rank j < rank k → counted j p ≡ Records x
-    → x ≤ length p) → (at n : ℕ) → countAlong counted k s (walkAt s at) ≡ Records n → n ≤ length s - at
-walk-fits k s ih =
-    along s (λ (at : ℕ) (w : Fields). (n : ℕ) → countAlong counted k s w ≡ Records n → n ≤ length s - at)
+walk-fits : (mode : Mode) (k : Kind) (s : List ℕ) → ((j : Kind) (p : List ℕ) (x : ℕ) → rank j < rank k → counted mode j p ≡ Records x
+    → x ≤ length p) → (at n : ℕ) → countAlong (counted mode) k s (walkAt mode s at) ≡ Records n → n ≤ length s - at
+walk-fits mode k s ih =
+    along mode s (λ (at : ℕ) (w : Fields). (n : ℕ) → countAlong (counted mode) k s w ≡ Records n → n ≤ length s - at)
     (λ at n h. let e : n ≡ 0 = cc in omega arith)
     (λ at why r n h. clash (cc))
     (λ at f st e rest n h.
-    let t = then-fits (roleCount counted s f (roleOf k (f .field) (f .«wire_type»)))
-    (countAlong counted k s (walkAt s (f .next))) n h in
-    let a = role-fits s at f (roleOf k (f .field) (f .«wire_type»)) counted (t .0) st (t .2)
+    let t = then-fits (roleCount (counted mode) s f (roleOf k (f .field) (f .«wire_type»)))
+    (countAlong (counted mode) k s (walkAt mode s (f .next))) n h in
+    let a = role-fits s at f (roleOf k (f .field) (f .«wire_type»)) (counted mode) (t .0) st (t .2)
     (λ j form p x q. ih j p x (sub-rank k j form (f .field) (f .«wire_type») q)) in
     let b = rest (t .1) (t .3) in
     omega (arith, t .4))
 
-pub count-fits : (k : Kind) (s : List ℕ) (n : ℕ) → counted k s ≡ Records n → n ≤ length s
-count-fits =
-    by-rank (λ k. (s : List ℕ) (n : ℕ) → counted k s ≡ Records n → n ≤ length s)
-    (λ k ih s n h. let l = walk-fits k s (λ j p x q e. ih j q p x e) 0 n (sym (count-along k s) ∙ h) in omega arith)
+pub count-fits : (mode : Mode) (k : Kind) (s : List ℕ) (n : ℕ) → counted mode k s ≡ Records n → n ≤ length s
+count-fits mode =
+    by-rank (λ k. (s : List ℕ) (n : ℕ) → counted mode k s ≡ Records n → n ≤ length s)
+    (λ k ih s n h. let l = walk-fits mode k s (λ j p x q e. ih j q p x e) 0 n (sym (count-along mode k s) ∙ h) in omega arith)
 
 -- a field has no more records than bytes, its tag counted
-pub field-fits : (k : Kind) (s : List ℕ) (at : ℕ) (f : Field) (m : ℕ) → Stands s at f → fieldCount k s f ≡ Records m
+pub field-fits : (mode : Mode) (k : Kind) (s : List ℕ) (at : ℕ) (f : Field) (m : ℕ) → Stands s at f → fieldCount mode k s f ≡ Records m
     → m ≤ f .next - at
 unfolding fieldCount
-field-fits k s at f m st h = role-fits s at f (roleOf k (f .field) (f .«wire_type»)) counted m st h
-    (λ j form p x q e. count-fits j p x e)
+field-fits mode k s at f m st h = role-fits s at f (roleOf k (f .field) (f .«wire_type»)) (counted mode) m st h
+    (λ j form p x q e. count-fits mode j p x e)

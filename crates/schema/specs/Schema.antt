@@ -6,7 +6,6 @@ use mathlib.Core.List.{List, [], _∷_}
 use lib.Dec.{eqb}
 use Rattle.basis.specs.declared.Edition.{Edition}
 use Rattle.basis.specs.declared.Edition.the-variants.{V11, V12}
-use Rattle.basis.specs.declared.Dialect.{Dialect}
 use Rattle.schema.specs.declared.Kind.{Kind}
 use Rattle.schema.specs.declared.Kind.the-variants as kind
 use Rattle.schema.specs.declared.Figure.the-variants.{Exact, Flag}
@@ -22,21 +21,18 @@ abbrev pub addedIn : Edition → List Role
 addedIn V11 = []
 addedIn V12 = Sub kind.ControlIDontWant Anew ∷ []
 
-abbrev pub addedTo : Dialect → List Role
-addedTo d = addedIn (d .edition)
-
 -- the fields of a message in rising order, from 1 on
 abbrev pub table : Kind → List Role
-table (kind.Rpc d) = Sub kind.SubOpts Anew ∷ Sub kind.RawMessage Whole ∷ Sub (kind.ControlMessage d) Merged ∷ []
+table (kind.Rpc e) = Sub kind.SubOpts Anew ∷ Sub kind.RawMessage Whole ∷ Sub (kind.ControlMessage e) Merged ∷ []
 table kind.SubOpts = Number Flag ∷ Text 1 ∷ []
 table kind.RawMessage = Bytes 1 ∷ Bytes 2 ∷ Bytes 3 ∷ Topic ∷ Unsigned 4 ∷ Unsigned 5 ∷ []
 table kind.Topic = []
-table (kind.ControlMessage d) =
+table (kind.ControlMessage e) =
     Sub kind.ControlIHave Anew
     ∷ Sub kind.ControlIWant Anew
     ∷ Sub kind.ControlGraft Anew
     ∷ Sub kind.ControlPrune Anew
-    ∷ addedTo d
+    ∷ addedIn e
 table kind.ControlIHave = Text 1 ∷ MessageId ∷ []
 table kind.ControlIWant = MessageId ∷ []
 table kind.MessageId = []
@@ -91,11 +87,11 @@ heldOf (Sub k form) = formedAs k form
 
 -- how deep submessages can stand in a message
 unfoldable pub rank : Kind → ℕ
-rank (kind.Rpc d) = 3
+rank (kind.Rpc e) = 3
 rank kind.SubOpts = 0
 rank kind.RawMessage = 0
 rank kind.Topic = 0
-rank (kind.ControlMessage d) = 2
+rank (kind.ControlMessage e) = 2
 rank kind.ControlIHave = 0
 rank kind.ControlIWant = 0
 rank kind.MessageId = 0
@@ -106,11 +102,11 @@ rank kind.ControlIDontWant = 0
 
 -- a submessage is a record of its own, but for a control
 unfoldable pub ownOf : Kind → ℕ
-ownOf (kind.Rpc d) = 0
+ownOf (kind.Rpc e) = 0
 ownOf kind.SubOpts = 1
 ownOf kind.RawMessage = 1
 ownOf kind.Topic = 1
-ownOf (kind.ControlMessage d) = 0
+ownOf (kind.ControlMessage e) = 0
 ownOf kind.ControlIHave = 1
 ownOf kind.ControlIWant = 1
 ownOf kind.MessageId = 1

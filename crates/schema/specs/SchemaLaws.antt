@@ -7,7 +7,6 @@ use lib.Dec.{eqb}
 use borrow.Author.Tests.{eqb-true}
 use Rattle.basis.specs.declared.Edition.{Edition}
 use Rattle.basis.specs.declared.Edition.the-variants.{V11, V12}
-use Rattle.basis.specs.declared.Dialect.{Dialect}
 use Rattle.basis.specs.Cases.{either, clash}
 use Rattle.schema.specs.declared.Kind.{Kind}
 use Rattle.schema.specs.declared.Kind.the-variants as kind
@@ -41,18 +40,18 @@ Below k Topic = Unit {0}
 Below k MessageId = Unit {0}
 Below k (Sub j form) = rank j < rank k
 
-added-below : (d : Dialect) (e : Edition) → Rows (λ n r. Below (kind.ControlMessage d) r) 5 (addedIn e)
+added-below : (c e : Edition) → Rows (λ n r. Below (kind.ControlMessage c) r) 5 (addedIn e)
 unfolding rank
-added-below d V11 = tt
-added-below d V12 = (omega arith, tt)
+added-below c V11 = tt
+added-below c V12 = (omega arith, tt)
 
 rows-below : (k : Kind) → Rows (λ n r. Below k r) 1 (table k)
 unfolding rank
-rows-below (kind.Rpc d) = (omega arith, (omega arith, (omega arith, tt)))
+rows-below (kind.Rpc e) = (omega arith, (omega arith, (omega arith, tt)))
 rows-below kind.SubOpts = (tt, (tt, tt))
 rows-below kind.RawMessage = (tt, (tt, (tt, (tt, (tt, (tt, tt))))))
 rows-below kind.Topic = tt
-rows-below (kind.ControlMessage d) = (omega arith, (omega arith, (omega arith, (omega arith, added-below d (d .edition)))))
+rows-below (kind.ControlMessage e) = (omega arith, (omega arith, (omega arith, (omega arith, added-below e e))))
 rows-below kind.ControlIHave = (tt, (tt, tt))
 rows-below kind.ControlIWant = (tt, tt)
 rows-below kind.MessageId = tt

@@ -4,6 +4,7 @@ use Prim.Native.Nat.{ℕ}
 use mathlib.Core.List.{List}
 use mathlib.Core.Bool.{Bool, false, cond, _||_}
 use lib.Dec.{eqb}
+use Rattle.basis.specs.declared.Mode.{Mode}
 use Rattle.protobuf.specs.declared.Field.{Field}
 use Rattle.protobuf.specs.Walk.{Fields, end, refused, _then_, fieldsOf, isBytes}
 use Rattle.schema.specs.declared.Kind.{Kind}
@@ -106,8 +107,8 @@ slotsAlong k t end = t
 slotsAlong k t (refused why) = t
 slotsAlong k t (f then w) = slotsAlong k (withField k t f) w
 
-unfoldable pub slotsOf : Kind → List ℕ → Slots
-slotsOf k s = slotsAlong k noSlots (fieldsOf s)
+unfoldable pub slotsOf : Mode → Kind → List ℕ → Slots
+slotsOf mode k s = slotsAlong k noSlots (fieldsOf mode s)
 
 -- a length-delimited field n is there
 abbrev pub hasAlong : ℕ → Fields → Bool
@@ -115,5 +116,5 @@ hasAlong n end = false
 hasAlong n (refused why) = false
 hasAlong n (f then w) = isBytes n f || hasAlong n w
 
-unfoldable pub hasField : ℕ → List ℕ → Bool
-hasField n s = hasAlong n (fieldsOf s)
+unfoldable pub hasField : Mode → ℕ → List ℕ → Bool
+hasField mode n s = hasAlong n (fieldsOf mode s)

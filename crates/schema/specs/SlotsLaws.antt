@@ -5,6 +5,7 @@ use mathlib.Core.List.{List}
 use native.Mathlib.Omega.{arith}
 use lib.ListN.{length}
 use lib.Dec.{eqb}
+use Rattle.basis.specs.declared.Mode.{Mode}
 use Rattle.basis.specs.Cases.{either, clash}
 use Rattle.protobuf.specs.declared.Field.{Field}
 use Rattle.protobuf.specs.Laws.{Stands}
@@ -76,15 +77,15 @@ role-good s at f t Topic st g = g
 role-good s at f t MessageId st g = g
 role-good s at f t (Sub k form) st g = g
 
-good-along : (k : Kind) (s : List ℕ) (at : ℕ) (t : Slots) → SlotsInside s t → SlotsInside s (slotsAlong k t (walkAt s at))
+good-along : (mode : Mode) (k : Kind) (s : List ℕ) (at : ℕ) (t : Slots) → SlotsInside s t → SlotsInside s (slotsAlong k t (walkAt mode s at))
 unfolding withField
-good-along k s =
-    along s (λ (at : ℕ) (w : Fields). (t : Slots) → SlotsInside s t → SlotsInside s (slotsAlong k t w))
+good-along mode k s =
+    along mode s (λ (at : ℕ) (w : Fields). (t : Slots) → SlotsInside s t → SlotsInside s (slotsAlong k t w))
     (λ at t g. g)
     (λ at why r t g. g)
     (λ at f st e rest t g. rest _ (role-good s at f t (roleOf k (f .field) (f .«wire_type»)) st g))
 
 -- the places of a message's singular fields lie within the message
-pub slots-inside : (k : Kind) (s : List ℕ) → SlotsInside s (slotsOf k s)
+pub slots-inside : (mode : Mode) (k : Kind) (s : List ℕ) → SlotsInside s (slotsOf mode k s)
 unfolding slotsOf
-slots-inside k s = good-along k s 0 noSlots (none-good s)
+slots-inside mode k s = good-along mode k s 0 noSlots (none-good s)

@@ -1,11 +1,13 @@
--- Where the first refusal of a message stands, in reading order: nowhere, where there is none. Offsets count from the
--- message's own start; a field that encloses the place adds its number, and the place where its bytes start.
+-- Where the first refusal of a message stands, in reading order, if it is one of 1 to 7: nowhere, where there is none.
+-- Offsets count from the message's own start; a field that encloses the place adds its number, and the place where its
+-- bytes start. Of a message that is refused by 14 to 16, which carry no place, it is not asked.
 use Prim.Native.Nat.{ℕ}
 use mathlib.Core.List.{List}
 use mathlib.Core.Bool.{cond}
 use Rattle.basis.specs.declared.Spot.{Spot}
 use Rattle.basis.specs.declared.Spot.the-variants.{Nowhere}
 use Rattle.basis.specs.Spot.{at, inside, orElse}
+use Rattle.basis.specs.declared.Mode.{Mode}
 use Rattle.utf8.specs.Utf8.{isUtf8}
 use Rattle.protobuf.specs.declared.Field.{Field}
 use Rattle.protobuf.specs.Refusal.{spotOf}
@@ -37,12 +39,12 @@ spotAlong sub k s end = Nowhere
 spotAlong sub k s (refused why) = spotOf why
 spotAlong sub k s (f then w) = orElse (roleSpot sub s f (roleOf k (f .field) (f .«wire_type»))) (spotAlong sub k s w)
 
-abbrev pub spotStep : (Kind → List ℕ → Spot) → Kind → List ℕ → Spot
-spotStep sub k s = spotAlong sub k s (fieldsOf s)
+abbrev pub spotStep : Mode → (Kind → List ℕ → Spot) → Kind → List ℕ → Spot
+spotStep mode sub k s = spotAlong sub k s (fieldsOf mode s)
 
-unfoldable pub spotIn : Kind → List ℕ → Spot
-spotIn k s = overKinds spotStep Nowhere k s
+unfoldable pub spotIn : Mode → Kind → List ℕ → Spot
+spotIn mode k s = overKinds (spotStep mode) Nowhere k s
 
 -- one field of a message of kind k
-unfoldable pub fieldSpot : Kind → List ℕ → Field → Spot
-fieldSpot k s f = roleSpot spotIn s f (roleOf k (f .field) (f .«wire_type»))
+unfoldable pub fieldSpot : Mode → Kind → List ℕ → Field → Spot
+fieldSpot mode k s f = roleSpot (spotIn mode) s f (roleOf k (f .field) (f .«wire_type»))

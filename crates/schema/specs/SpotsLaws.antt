@@ -5,6 +5,7 @@ use mathlib.Core.Path.{_≡_, refl, sym, ap, ap₂, subst, _∙_}
 use mathlib.Core.List.{List}
 use native.Mathlib.Omega.{arith}
 use lib.ListN.{length, drop, length-take}
+use Rattle.basis.specs.declared.Mode.{Mode}
 use Rattle.basis.specs.declared.Spot.{Spot}
 use Rattle.basis.specs.declared.Spot.the-variants.{Nowhere, At}
 use Rattle.basis.specs.Spot.{at, inside, orElse, Within, Reaches}
@@ -50,9 +51,9 @@ same-along f g k s (x then w) h =
     (λ j form p e. h j p (sub-rank k j form (x .field) (x .«wire_type») e)))
     (same-along f g k s w h)
 
-pub spot-along : (k : Kind) (s : List ℕ) → spotIn k s ≡ spotAlong spotIn k s (fieldsOf s)
+pub spot-along : (mode : Mode) (k : Kind) (s : List ℕ) → spotIn mode k s ≡ spotAlong (spotIn mode) k s (fieldsOf mode s)
 unfolding spotIn
-spot-along k s = unfolds spotStep Nowhere (λ f g j p h. same-along f g j p (fieldsOf p) h) k s
+spot-along mode k s = unfolds (spotStep mode) Nowhere (λ f g j p h. same-along f g j p (fieldsOf mode p) h) k s
 
 -- ---- a place lies within the message
 either-within : (n : ℕ) (a b : Spot) → Within n a → Within n b → Within n (orElse a b)
@@ -69,32 +70,32 @@ text-within s from f st =
     either (isUtf8 (between s (f .start) (f .next))) (λ t. simp t tt)
     (λ t. simp t (omega (arith, st .tagged, st .ends, st .within)))
 
-role-within : (s : List ℕ) (from : ℕ) (f : Field) (r : Role) → Stands s from f
-    → ((j : Kind) (form : Form) (p : List ℕ) → r ≡ Sub j form → Within (length p) (spotIn j p))
-    → Within (length s) (roleSpot spotIn s f r)
-role-within s from f Skip st ih = tt
-role-within s from f (Number figure) st ih = tt
-role-within s from f (Text slot) st ih = text-within s from f st
-role-within s from f (Bytes slot) st ih = tt
-role-within s from f (Unsigned slot) st ih = tt
-role-within s from f Topic st ih = text-within s from f st
-role-within s from f MessageId st ih = tt
-role-within s from f (Sub k form) st ih =
+role-within : (mode : Mode) (s : List ℕ) (from : ℕ) (f : Field) (r : Role) → Stands s from f
+    → ((j : Kind) (form : Form) (p : List ℕ) → r ≡ Sub j form → Within (length p) (spotIn mode j p))
+    → Within (length s) (roleSpot (spotIn mode) s f r)
+role-within mode s from f Skip st ih = tt
+role-within mode s from f (Number figure) st ih = tt
+role-within mode s from f (Text slot) st ih = text-within s from f st
+role-within mode s from f (Bytes slot) st ih = tt
+role-within mode s from f (Unsigned slot) st ih = tt
+role-within mode s from f Topic st ih = text-within s from f st
+role-within mode s from f MessageId st ih = tt
+role-within mode s from f (Sub k form) st ih =
     inside-within (length s) (length (between s (f .start) (f .next))) (f .field) (f .start)
-    (spotIn k (between s (f .start) (f .next))) (ih k form (between s (f .start) (f .next)) refl)
+    (spotIn mode k (between s (f .start) (f .next))) (ih k form (between s (f .start) (f .next)) refl)
     (omega (arith, length-take (f .next - f .start) (drop (f .start) s), st .ends, st .within))
 
-pub spot-within : (k : Kind) (s : List ℕ) → Within (length s) (spotIn k s)
-spot-within =
-    by-rank (λ k. (s : List ℕ) → Within (length s) (spotIn k s))
-    (λ k ih s. subst (Within (length s)) (sym (spot-along k s))
-    (along s (λ (from : ℕ) (w : Fields). Within (length s) (spotAlong spotIn k s w))
+pub spot-within : (mode : Mode) (k : Kind) (s : List ℕ) → Within (length s) (spotIn mode k s)
+spot-within mode =
+    by-rank (λ k. (s : List ℕ) → Within (length s) (spotIn mode k s))
+    (λ k ih s. subst (Within (length s)) (sym (spot-along mode k s))
+    (along mode s (λ (from : ℕ) (w : Fields). Within (length s) (spotAlong (spotIn mode) k s w))
     (λ from. tt)
-    (λ from why e. field-within s from why e)
+    (λ from why e. field-within mode s from why e)
     (λ from f st e rest.
-    either-within (length s) (roleSpot spotIn s f (roleOf k (f .field) (f .«wire_type»)))
-    (spotAlong spotIn k s (walkAt s (f .next)))
-    (role-within s from f (roleOf k (f .field) (f .«wire_type»)) st
+    either-within (length s) (roleSpot (spotIn mode) s f (roleOf k (f .field) (f .«wire_type»)))
+    (spotAlong (spotIn mode) k s (walkAt mode s (f .next)))
+    (role-within mode s from f (roleOf k (f .field) (f .«wire_type»)) st
     (λ j form p q. ih j (sub-rank k j form (f .field) (f .«wire_type») q) p)) rest)
     0))
 
@@ -109,37 +110,37 @@ unfolding textCount textSpot
 text-clean s f n m h =
     either (isUtf8 (between s (f .start) (f .next))) (λ t. simp t) (λ t. clash (let e = simp t at h in cc))
 
-role-clean-by : (s : List ℕ) (f : Field) (r : Role) (m : ℕ) → roleCount counted s f r ≡ Records m
-    → ((j : Kind) (form : Form) (p : List ℕ) (x : ℕ) → r ≡ Sub j form → counted j p ≡ Records x → spotIn j p ≡ Nowhere)
-    → roleSpot spotIn s f r ≡ Nowhere
-role-clean-by s f Skip m h ih = refl
-role-clean-by s f (Number figure) m h ih = refl
-role-clean-by s f (Text slot) m h ih = text-clean s f 0 m h
-role-clean-by s f (Bytes slot) m h ih = refl
-role-clean-by s f (Unsigned slot) m h ih = refl
-role-clean-by s f Topic m h ih = text-clean s f 1 m h
-role-clean-by s f MessageId m h ih = refl
-role-clean-by s f (Sub k form) m h ih =
-    let t = plus-fits (ownOf k) m (counted k (between s (f .start) (f .next))) h in
+role-clean-by : (mode : Mode) (s : List ℕ) (f : Field) (r : Role) (m : ℕ) → roleCount (counted mode) s f r ≡ Records m
+    → ((j : Kind) (form : Form) (p : List ℕ) (x : ℕ) → r ≡ Sub j form → counted mode j p ≡ Records x → spotIn mode j p ≡ Nowhere)
+    → roleSpot (spotIn mode) s f r ≡ Nowhere
+role-clean-by mode s f Skip m h ih = refl
+role-clean-by mode s f (Number figure) m h ih = refl
+role-clean-by mode s f (Text slot) m h ih = text-clean s f 0 m h
+role-clean-by mode s f (Bytes slot) m h ih = refl
+role-clean-by mode s f (Unsigned slot) m h ih = refl
+role-clean-by mode s f Topic m h ih = text-clean s f 1 m h
+role-clean-by mode s f MessageId m h ih = refl
+role-clean-by mode s f (Sub k form) m h ih =
+    let t = plus-fits (ownOf k) m (counted mode k (between s (f .start) (f .next))) h in
     ap (inside (f .field) (f .start)) (ih k form (between s (f .start) (f .next)) (t .0) refl (t .1))
 
-pub count-clean : (k : Kind) (s : List ℕ) (n : ℕ) → counted k s ≡ Records n → spotIn k s ≡ Nowhere
-count-clean =
-    by-rank (λ k. (s : List ℕ) (n : ℕ) → counted k s ≡ Records n → spotIn k s ≡ Nowhere)
-    (λ k ih s n h. spot-along k s
-    ∙ along s (λ (from : ℕ) (w : Fields). (m : ℕ) → countAlong counted k s w ≡ Records m → spotAlong spotIn k s w ≡ Nowhere)
+pub count-clean : (mode : Mode) (k : Kind) (s : List ℕ) (n : ℕ) → counted mode k s ≡ Records n → spotIn mode k s ≡ Nowhere
+count-clean mode =
+    by-rank (λ k. (s : List ℕ) (n : ℕ) → counted mode k s ≡ Records n → spotIn mode k s ≡ Nowhere)
+    (λ k ih s n h. spot-along mode k s
+    ∙ along mode s (λ (from : ℕ) (w : Fields). (m : ℕ) → countAlong (counted mode) k s w ≡ Records m → spotAlong (spotIn mode) k s w ≡ Nowhere)
     (λ from m g. refl)
     (λ from why e m g. clash (cc))
     (λ from f st e rest m g.
     let r = roleOf k (f .field) (f .«wire_type») in
-    let t = then-fits (roleCount counted s f r) (countAlong counted k s (walkAt s (f .next))) m g in
+    let t = then-fits (roleCount (counted mode) s f r) (countAlong (counted mode) k s (walkAt mode s (f .next))) m g in
     ap₂ orElse
-    (role-clean-by s f r (t .0) (t .2)
+    (role-clean-by mode s f r (t .0) (t .2)
     (λ j form p x q. ih j (sub-rank k j form (f .field) (f .«wire_type») q) p x))
     (rest (t .1) (t .3)))
-    0 n (sym (count-along k s) ∙ h))
+    0 n (sym (count-along mode k s) ∙ h))
 
 -- so of a field whose records are counted
-pub role-clean : (s : List ℕ) (f : Field) (r : Role) (m : ℕ) → roleCount counted s f r ≡ Records m
-    → roleSpot spotIn s f r ≡ Nowhere
-role-clean s f r m h = role-clean-by s f r m h (λ j form p x q e. count-clean j p x e)
+pub role-clean : (mode : Mode) (s : List ℕ) (f : Field) (r : Role) (m : ℕ) → roleCount (counted mode) s f r ≡ Records m
+    → roleSpot (spotIn mode) s f r ≡ Nowhere
+role-clean mode s f r m h = role-clean-by mode s f r m h (λ j form p x q e. count-clean mode j p x e)

@@ -9,6 +9,7 @@ use mathlib.Core.Logic.{_↔_}
 use native.Mathlib.Omega.{arith}
 use lib.Dec.{eqb}
 use borrow.Author.Tests.{eqb-true}
+use Rattle.basis.specs.declared.Mode.{Mode}
 use Rattle.basis.specs.Cases.{either, clash}
 use Rattle.utf8.specs.Utf8.{isUtf8}
 use Rattle.protobuf.specs.declared.WireError.the-variants.{InvalidUtf8}
@@ -52,41 +53,41 @@ of-part s n type to f (part.Bytes a e) q h =
     ap (readLen s) t ∙ cc
 of-part s n type to f (part.Refused why) q h = clash (cc)
 
-of-value : (s : List ℕ) (n type to : ℕ) (f : Field) → step.At f ≡ readValue s n type to → f .«wire_type» ≡ 2
+of-value : (mode : Mode) (s : List ℕ) (n type to : ℕ) (f : Field) → step.At f ≡ readValue mode s n type to → f .«wire_type» ≡ 2
     → readLen s (f .«tag_end») ≡ part.Bytes (f .start) (f .next)
 unfolding readValue
-of-value s n type to f h w =
+of-value mode s n type to f h w =
     either (eqb type 0)
     (λ t0. absurd (value-none n type to f (readVarint s to) (eqb-true type 0 t0) (simp t0 at h) w))
     (λ t0. either (eqb type 2) (λ t2. of-part s n type to f (readLen s to) refl (simp (t0, t2) at h))
-    (λ t2. absurd (skip-none n type to f (skipField s to type) t2 (simp (t0, t2) at h) w)))
+    (λ t2. absurd (skip-none n type to f (skipField mode s to type) t2 (simp (t0, t2) at h) w)))
 
-of-tag : (s : List ℕ) (f : Field) (r : Tag) → step.At f ≡ ofTag s r → f .«wire_type» ≡ 2
+of-tag : (mode : Mode) (s : List ℕ) (f : Field) (r : Tag) → step.At f ≡ ofTag mode s r → f .«wire_type» ≡ 2
     → readLen s (f .«tag_end») ≡ part.Bytes (f .start) (f .next)
-of-tag s f tag.End h w = clash (cc)
-of-tag s f (tag.Refused why) h w = clash (cc)
-of-tag s f (tag.Field n type to) h w = of-value s n type to f h w
+of-tag mode s f tag.End h w = clash (cc)
+of-tag mode s f (tag.Refused why) h w = clash (cc)
+of-tag mode s f (tag.Field n type to) h w = of-value mode s n type to f h w
 
-pub part-read : (s : List ℕ) (at : ℕ) (f : Field) → step.At f ≡ readField s at → f .«wire_type» ≡ 2
+pub part-read : (mode : Mode) (s : List ℕ) (at : ℕ) (f : Field) → step.At f ≡ readField mode s at → f .«wire_type» ≡ 2
     → readLen s (f .«tag_end») ≡ part.Bytes (f .start) (f .next)
 unfolding readField
-part-read s at f h w = of-tag s f (readTag s at) h w
+part-read mode s at f h w = of-tag mode s f (readTag s at) h w
 
 -- ---- what counting makes of a string: n records, or its refusal
 abbrev pub stringCount : ℕ → Part → Counted
 stringCount n (part.Bytes a e) = Records n
 stringCount n (part.Refused why) = Refused why
 
-module _ (s : List ℕ) (at : ℕ) (f : Field) (n : ℕ) (met : step.At f ≡ readField s at) (len : f .«wire_type» ≡ 2) where
+module _ (mode : Mode) (s : List ℕ) (at : ℕ) (f : Field) (n : ℕ) (met : step.At f ≡ readField mode s at) (len : f .«wire_type» ≡ 2) where
   string-taken : isUtf8 (between s (f .start) (f .next)) ≡ true
       → readString s (f .«tag_end») ≡ part.Bytes (f .start) (f .next)
   unfolding readString
-  string-taken t = ap (stringOf s (f .«tag_end»)) (part-read s at f met len) ∙ simp t
+  string-taken t = ap (stringOf s (f .«tag_end»)) (part-read mode s at f met len) ∙ simp t
 
   string-refused : isUtf8 (between s (f .start) (f .next)) ≡ false
       → readString s (f .«tag_end») ≡ part.Refused (InvalidUtf8 (f .«tag_end»))
   unfolding readString
-  string-refused t = ap (stringOf s (f .«tag_end»)) (part-read s at f met len) ∙ simp t
+  string-refused t = ap (stringOf s (f .«tag_end»)) (part-read mode s at f met len) ∙ simp t
 
   -- the same answer
   pub text-read : textCount s f n ≡ stringCount n (readString s (f .«tag_end»))
@@ -145,15 +146,15 @@ text-len k m type r n h t =
     (λ u. either (eqb type 0) (λ v. absurd (not-number k m r n t (simp (u, v) at h)))
     (λ v. absurd (not-skip t (simp (u, v) at h))))
 
-role-read : (s : List ℕ) (at : ℕ) (f : Field) (n : ℕ) (r : Role) → step.At f ≡ readField s at → f .«wire_type» ≡ 2
-    → IsText r n → roleCount counted s f r ≡ stringCount n (readString s (f .«tag_end»))
-role-read s at f _ _ met len text = text-read s at f 0 met len
-role-read s at f _ _ met len topic = text-read s at f 1 met len
+role-read : (mode : Mode) (s : List ℕ) (at : ℕ) (f : Field) (n : ℕ) (r : Role) → step.At f ≡ readField mode s at → f .«wire_type» ≡ 2
+    → IsText r n → roleCount (counted mode) s f r ≡ stringCount n (readString s (f .«tag_end»))
+role-read mode s at f _ _ met len text = text-read mode s at f 0 met len
+role-read mode s at f _ _ met len topic = text-read mode s at f 1 met len
 
 -- a message of kind k counts each text field that the walk meets as `readString` reads it
-pub field-read : (k : Kind) (s : List ℕ) (at : ℕ) (f : Field) (n : ℕ) → step.At f ≡ readField s at
-    → IsText (roleOf k (f .field) (f .«wire_type»)) n → fieldCount k s f ≡ stringCount n (readString s (f .«tag_end»))
+pub field-read : (mode : Mode) (k : Kind) (s : List ℕ) (at : ℕ) (f : Field) (n : ℕ) → step.At f ≡ readField mode s at
+    → IsText (roleOf k (f .field) (f .«wire_type»)) n → fieldCount mode k s f ≡ stringCount n (readString s (f .«tag_end»))
 unfolding fieldCount
-field-read k s at f n met t =
+field-read mode k s at f n met t =
     let r = roleOf k (f .field) (f .«wire_type») in
-    role-read s at f n r met (text-len k (f .field) (f .«wire_type») r n refl t) t
+    role-read mode s at f n r met (text-len k (f .field) (f .«wire_type») r n refl t) t

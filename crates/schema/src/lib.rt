@@ -3,15 +3,17 @@
 ghost use Prim.Native.Nat.{_+_, _<_};
 ghost use mathlib.Core.Path.{_≡_};
 ghost use lib.ListN.{length};
-ghost use Rattle.schema.specs.Schema.{addedTo, table, rowFrom, rowOf, isVarint, roleOf, formedAs, heldOf, ownOf};
+ghost use Rattle.schema.specs.Schema.{addedIn, table, rowFrom, rowOf, isVarint, roleOf, formedAs, heldOf, ownOf};
 ghost use Rattle.schema.specs.Accept.{bodyRecords, acceptOf};
 ghost use Rattle.schema.specs.Count.{FieldWithin, counted, fieldCount, textCount};
 ghost use Rattle.basis.specs.Spot.{inside, Reaches};
+ghost use Rattle.protobuf.specs.Refusal.{standing};
 ghost use Rattle.schema.specs.Spots.{textSpot, fieldSpot, spotIn};
 ghost use Rattle.schema.specs.Slots.{setPlace, placeOf, withField, slotsOf, hasField};
 ghost use Rattle.schema.specs.Made.{placeFrom, numberFrom, madeFrom, indexOf, Sixes};
 use basis::Dialect;
 use basis::Edition;
+use basis::Mode;
 use basis::Spot;
 use protobuf::Checked;
 use protobuf::Field;
@@ -28,13 +30,13 @@ use protobuf::spot_of;
 pub const MAX_RECORDS: usize = 512;
 
 // The messages of the gossipsub protobuf, and the two other kinds of record: a topic of a message and a message id. A message whose fields depend on
-// the dialect, or which holds such a message, has it beside it.
+// the edition, or which holds such a message, has it beside it.
 pub enum Kind {
-    Rpc(Dialect),
+    Rpc(Edition),
     SubOpts,
     RawMessage,
     Topic,
-    ControlMessage(Dialect),
+    ControlMessage(Edition),
     ControlIHave,
     ControlIWant,
     MessageId,
@@ -113,10 +115,9 @@ pub enum Tested {
 }
 
 // The role of a control's field from 5 on: what an edition adds.
-fn added(dialect: Dialect, field: u64) -> Role
-    ensures { λ r. ⌜ r ≡ rowFrom 5 (addedTo dialect) field ⌝ }
+fn added(edition: Edition, field: u64) -> Role
+    ensures { λ r. ⌜ r ≡ rowFrom 5 (addedIn edition) field ⌝ }
 {
-    let edition = dialect.edition;
     match edition {
         Edition::V11 => Role::Skip,
         Edition::V12 => {
@@ -133,7 +134,7 @@ pub fn row_of(kind: Kind, field: u64) -> Role
     ensures { λ r. ⌜ r ≡ rowOf kind field ⌝ }
 {
     match kind {
-        Kind::Rpc(dialect) => {
+        Kind::Rpc(edition) => {
             if field == 1 {
                 return Role::Sub(Kind::SubOpts, Form::Anew);
             }
@@ -141,7 +142,7 @@ pub fn row_of(kind: Kind, field: u64) -> Role
                 return Role::Sub(Kind::RawMessage, Form::Whole);
             }
             if field == 3 {
-                return Role::Sub(Kind::ControlMessage(dialect), Form::Merged);
+                return Role::Sub(Kind::ControlMessage(edition), Form::Merged);
             }
             Role::Skip
         }
@@ -176,7 +177,7 @@ pub fn row_of(kind: Kind, field: u64) -> Role
             Role::Skip
         }
         Kind::Topic => Role::Skip,
-        Kind::ControlMessage(dialect) => {
+        Kind::ControlMessage(edition) => {
             if field == 1 {
                 return Role::Sub(Kind::ControlIHave, Form::Anew);
             }
@@ -189,7 +190,7 @@ pub fn row_of(kind: Kind, field: u64) -> Role
             if field == 4 {
                 return Role::Sub(Kind::ControlPrune, Form::Anew);
             }
-            added(dialect, field)
+            added(edition, field)
         }
         Kind::ControlIHave => {
             if field == 1 {
@@ -244,10 +245,9 @@ pub fn row_of(kind: Kind, field: u64) -> Role
 }
 
 // How many fields a control has.
-fn control_rows(dialect: Dialect) -> u64
-    ensures { λ r. ⌜ r ≡ 4 + length (addedTo dialect) ⌝ }
+fn control_rows(edition: Edition) -> u64
+    ensures { λ r. ⌜ r ≡ 4 + length (addedIn edition) ⌝ }
 {
-    let edition = dialect.edition;
     match edition {
         Edition::V11 => 4,
         Edition::V12 => 5,
@@ -263,7 +263,7 @@ pub fn rows(kind: Kind) -> u64
         Kind::SubOpts => 2,
         Kind::RawMessage => 6,
         Kind::Topic => 0,
-        Kind::ControlMessage(dialect) => control_rows(dialect),
+        Kind::ControlMessage(edition) => control_rows(edition),
         Kind::ControlIHave => 2,
         Kind::ControlIWant => 1,
         Kind::MessageId => 0,
@@ -370,9 +370,9 @@ fn count_text(input: &[u8], f: Field, n: usize) -> Counted
 }
 
 // How many records a field of a message has, or why the field is refused.
-fn count_field(input: &[u8], kind: Kind, f: Field) -> Counted
+fn count_field(mode: Mode, input: &[u8], kind: Kind, f: Field) -> Counted
     requires { ⌜ FieldWithin (now input) f ⌝ }
-    ensures { λ r. ⌜ r ≡ fieldCount kind (now (input .entry)) f ⌝ }
+    ensures { λ r. ⌜ r ≡ fieldCount mode kind (now (input .entry)) f ⌝ }
 {
     let role = role_of(kind, f.field, f.wire_type);
     match role {
@@ -385,7 +385,7 @@ fn count_field(input: &[u8], kind: Kind, f: Field) -> Counted
         Role::Sub(k, _) => {
             let start = f.start;
             let next = f.next;
-            let c = count(&input[start..next], k);
+            let c = count(mode, &input[start..next], k);
             match c {
                 Counted::Refused(why) => Counted::Refused(why),
                 Counted::Records(n) => {
@@ -399,13 +399,13 @@ fn count_field(input: &[u8], kind: Kind, f: Field) -> Counted
 }
 
 // How many records a message has, or why it is refused.
-pub fn count(input: &[u8], kind: Kind) -> Counted
-    ensures { λ r. ⌜ r ≡ counted kind (now (input .entry)) ⌝ }
+pub fn count(mode: Mode, input: &[u8], kind: Kind) -> Counted
+    ensures { λ r. ⌜ r ≡ counted mode kind (now (input .entry)) ⌝ }
 {
     let mut at: usize = 0;
     let mut n: usize = 0;
     while at < input.len() {
-        let step = read_field(input, at);
+        let step = read_field(mode, input, at);
         match step {
             Step::End => {
                 return Counted::Records(n);
@@ -414,7 +414,7 @@ pub fn count(input: &[u8], kind: Kind) -> Counted
                 return Counted::Refused(why);
             }
             Step::At(f) => {
-                let c = count_field(input, kind, f);
+                let c = count_field(mode, input, kind, f);
                 match c {
                     Counted::Refused(why) => {
                         return Counted::Refused(why);
@@ -465,9 +465,9 @@ fn enclose(spot: Spot, field: u64, start: usize) -> Spot
 }
 
 // Where a field of a message is refused.
-fn spot_field(input: &[u8], kind: Kind, f: Field) -> Spot
+fn spot_field(mode: Mode, input: &[u8], kind: Kind, f: Field) -> Spot
     requires { ⌜ FieldWithin (now input) f ⌝ }
-    ensures { λ r. ⌜ r ≡ fieldSpot kind (now (input .entry)) f ⌝ }
+    ensures { λ r. ⌜ r ≡ fieldSpot mode kind (now (input .entry)) f ⌝ }
 {
     let role = role_of(kind, f.field, f.wire_type);
     match role {
@@ -480,7 +480,7 @@ fn spot_field(input: &[u8], kind: Kind, f: Field) -> Spot
         Role::Sub(k, _) => {
             let start = f.start;
             let next = f.next;
-            let spot = spot_in(&input[start..next], k);
+            let spot = spot_in(mode, &input[start..next], k);
             enclose(spot, f.field, start)
         }
         Role::Unsigned(_) => Spot::Nowhere,
@@ -488,12 +488,12 @@ fn spot_field(input: &[u8], kind: Kind, f: Field) -> Spot
 }
 
 // Where a message is refused, at its first refusal in reading order. Bodies that are taken are not walked so: it is asked of refused ones only.
-pub fn spot_in(input: &[u8], kind: Kind) -> Spot
-    ensures { λ r. ⌜ r ≡ spotIn kind (now (input .entry)) ⌝ }
+pub fn spot_in(mode: Mode, input: &[u8], kind: Kind) -> Spot
+    ensures { λ r. ⌜ r ≡ spotIn mode kind (now (input .entry)) ⌝ }
 {
     let mut at: usize = 0;
     while at < input.len() {
-        let step = read_field(input, at);
+        let step = read_field(mode, input, at);
         match step {
             Step::End => {
                 return Spot::Nowhere;
@@ -502,7 +502,7 @@ pub fn spot_in(input: &[u8], kind: Kind) -> Spot
                 return spot_of(why);
             }
             Step::At(f) => {
-                let spot = spot_field(input, kind, f);
+                let spot = spot_field(mode, input, kind, f);
                 match spot {
                     Spot::At {
                         offset: _,
@@ -522,19 +522,37 @@ pub fn spot_in(input: &[u8], kind: Kind) -> Spot
     Spot::Nowhere
 }
 
-// How many records a body has, or why it is refused, and where: 10, 1 to 7, 11. This is the one test of a body.
+// Where a refusal in a message stands: 14 to 16 carry no place, so none is looked for.
+fn placed(mode: Mode, input: &[u8], kind: Kind, why: WireError) -> Refusal
+    ensures { λ r. ⌜ r ≡ standing (spotIn mode kind (now (input .entry))) why ⌝ }
+{
+    let own = spot_of(why);
+    match own {
+        Spot::Nowhere => Refusal::nowhere(why),
+        Spot::At {
+            offset: _,
+            outer: _,
+            middle: _,
+            inner: _,
+        } => Refusal {
+            why,
+            spot: spot_in(mode, input, kind),
+        },
+    }
+}
+
+// How many records a body has, or why it is refused, and where: 10, 1 to 7 and 14 to 16, 11. This is the one test of a body.
 pub fn body_records(dialect: Dialect, body: &[u8]) -> Tested
     ensures { λ r. ⌜ r ≡ bodyRecords dialect (now (body .entry)) ⌝ }
 {
     if MAX_RPC_SIZE < body.len() {
         return Tested::Refused(Refusal::nowhere(WireError::TooLarge { len: body.len() }));
     }
-    let c = count(body, Kind::Rpc(dialect));
+    let mode = dialect.mode;
+    let kind = Kind::Rpc(dialect.edition);
+    let c = count(mode, body, kind);
     match c {
-        Counted::Refused(why) => Tested::Refused(Refusal {
-            why,
-            spot: spot_in(body, Kind::Rpc(dialect)),
-        }),
+        Counted::Refused(why) => Tested::Refused(placed(mode, body, kind, why)),
         Counted::Records(n) => {
             if MAX_RECORDS < n {
                 return Tested::Refused(Refusal::nowhere(WireError::TooManyRecords { records: n }));
@@ -556,12 +574,12 @@ pub fn accept(dialect: Dialect, body: &[u8]) -> Checked
 }
 
 // Whether a message has a length-delimited field n.
-pub fn has_field(input: &[u8], n: u64) -> bool
-    ensures { λ r. ⌜ r ≡ hasField n (now (input .entry)) ⌝ }
+pub fn has_field(mode: Mode, input: &[u8], n: u64) -> bool
+    ensures { λ r. ⌜ r ≡ hasField mode n (now (input .entry)) ⌝ }
 {
     let mut at: usize = 0;
     while at < input.len() {
-        let step = read_field(input, at);
+        let step = read_field(mode, input, at);
         match step {
             Step::End => {
                 return false;
@@ -703,15 +721,15 @@ fn take_field(
 }
 
 // The singular fields of a message, up to its end or to what refuses it.
-pub fn slots_of(input: &[u8], kind: Kind) -> Slots
-    ensures { λ r. ⌜ r ≡ slotsOf kind (now (input .entry)) ⌝ }
+pub fn slots_of(mode: Mode, input: &[u8], kind: Kind) -> Slots
+    ensures { λ r. ⌜ r ≡ slotsOf mode kind (now (input .entry)) ⌝ }
 {
     let mut at: usize = 0;
     let mut starts = [0u64; 6];
     let mut ends = [0u64; 6];
     let mut there = [0u64; 6];
     while at < input.len() {
-        let step = read_field(input, at);
+        let step = read_field(mode, input, at);
         match step {
             Step::End => {
                 return made(&starts, &ends, &there);
