@@ -1,4 +1,4 @@
--- A field whose tag is a byte: a number of a byte, and bytes whose length takes one byte or two.
+-- A field whose tag is a byte: a number of a byte, and bytes whose length takes one byte or two. They are the same in each mode.
 use Prim.Native.Nat.{ℕ, suc, _+_, _-_, _*_, _/_, _%_, _≤_, _<_}
 use mathlib.Core.Path.{_≡_, refl, ap, ap₂, _∙_}
 use mathlib.Core.List.{List, _∷_}
@@ -7,6 +7,7 @@ use lib.ListN.{length, getD, drop}
 use lib.Seq.{drop-cons}
 use lib.Dec.{leb, ltb, eqb}
 use borrow.Author.Tests.{lt-leb, le-leb, le-ltb, ne-eqb}
+use Rattle.basis.specs.declared.Mode.{Mode}
 use Rattle.basis.specs.Cases.{either}
 use Rattle.peer_id.specs.declared.Uvarint.the-variants.{Value}
 use Rattle.peer_id.specs.Uvarint.{groupOf, readFrom, readUvarint}
@@ -29,10 +30,10 @@ short-len : (s : List ℕ) (at b : ℕ) → at < length s → getD s at 0 ≡ b 
 unfolding readLen
 short-len s at b h e l m = rw (short-uvarint s at b h e l, le-ltb (length s - (at + 1)) b m)
 
-pub short-field : (s : List ℕ) (at t b : ℕ) → at + 1 < length s → getD s at 0 ≡ t → getD s (at + 1) 0 ≡ b → t % 8 ≡ 2 → 8 ≤ t → t < 128 → b < 128 → b ≤ length s - (at + 1 + 1)
-    → step.At (record { field = t / 8; «wire_type» = 2; «tag_end» = at + 1; value = b; start = at + 1 + 1; next = at + 1 + 1 + b }) ≡ readField s at
+pub short-field : (mode : Mode) (s : List ℕ) (at t b : ℕ) → at + 1 < length s → getD s at 0 ≡ t → getD s (at + 1) 0 ≡ b → t % 8 ≡ 2 → 8 ≤ t → t < 128 → b < 128 → b ≤ length s - (at + 1 + 1)
+    → step.At (record { field = t / 8; «wire_type» = 2; «tag_end» = at + 1; value = b; start = at + 1 + 1; next = at + 1 + 1 + b }) ≡ readField mode s at
 unfolding readField readValue
-short-field s at t b h e f two some few l m =
+short-field mode s at t b h e f two some few l m =
     let v : (at + 1 + 1 + b) - (at + 1 + 1) ≡ b = omega arith in
     rw (short-tag s at t (omega arith) e some few, two, short-len s (at + 1) b h f l m, v)
 
@@ -40,10 +41,10 @@ short-value : (s : List ℕ) (at b : ℕ) → at < length s → getD s at 0 ≡ 
 unfolding readVarint
 short-value s at b h e l = rw (short-uvarint s at b h e l)
 
-pub short-number : (s : List ℕ) (at t b : ℕ) → at + 1 < length s → getD s at 0 ≡ t → getD s (at + 1) 0 ≡ b → t % 8 ≡ 0 → 8 ≤ t → t < 128 → b < 128
-    → step.At (record { field = t / 8; «wire_type» = 0; «tag_end» = at + 1; value = b; start = at + 1 + 1; next = at + 1 + 1 }) ≡ readField s at
+pub short-number : (mode : Mode) (s : List ℕ) (at t b : ℕ) → at + 1 < length s → getD s at 0 ≡ t → getD s (at + 1) 0 ≡ b → t % 8 ≡ 0 → 8 ≤ t → t < 128 → b < 128
+    → step.At (record { field = t / 8; «wire_type» = 0; «tag_end» = at + 1; value = b; start = at + 1 + 1; next = at + 1 + 1 }) ≡ readField mode s at
 unfolding readField readValue
-short-number s at t b h e f none some few l = rw (short-tag s at t (omega arith) e some few, none, short-value s (at + 1) b h f l)
+short-number mode s at t b h e f none some few l = rw (short-tag s at t (omega arith) e some few, none, short-value s (at + 1) b h f l)
 
 -- a length of two bytes
 two-groups : (b h : ℕ) (rest : List ℕ) → 128 ≤ b → 1 ≤ h → h < 128 → readUvarint (b ∷ h ∷ rest) ≡ Value (b % 128 + 128 * h) 2
@@ -63,15 +64,15 @@ two-len : (s : List ℕ) (at b h : ℕ) → at + 1 < length s → getD s at 0 �
 unfolding readLen
 two-len s at b h l e f m n o q = rw (two-uvarint s at b h l e f m n o, le-ltb (length s - (at + 2)) (b % 128 + 128 * h) q)
 
-pub middle-field : (s : List ℕ) (at t b h : ℕ) → at + 1 + 1 < length s → getD s at 0 ≡ t → getD s (at + 1) 0 ≡ b → getD s (at + 1 + 1) 0 ≡ h → t % 8 ≡ 2 → 8 ≤ t → t < 128 → 128 ≤ b → 1 ≤ h → h < 128
+pub middle-field : (mode : Mode) (s : List ℕ) (at t b h : ℕ) → at + 1 + 1 < length s → getD s at 0 ≡ t → getD s (at + 1) 0 ≡ b → getD s (at + 1 + 1) 0 ≡ h → t % 8 ≡ 2 → 8 ≤ t → t < 128 → 128 ≤ b → 1 ≤ h → h < 128
     → b % 128 + 128 * h ≤ length s - (at + 1 + 1 + 1)
-    → step.At (record { field = t / 8; «wire_type» = 2; «tag_end» = at + 1; value = b % 128 + 128 * h; start = at + 1 + 1 + 1; next = at + 1 + 1 + 1 + (b % 128 + 128 * h) }) ≡ readField s at
+    → step.At (record { field = t / 8; «wire_type» = 2; «tag_end» = at + 1; value = b % 128 + 128 * h; start = at + 1 + 1 + 1; next = at + 1 + 1 + 1 + (b % 128 + 128 * h) }) ≡ readField mode s at
 unfolding readField readValue
-middle-field s at t b h l e f g two some few m n o q =
+middle-field mode s at t b h l e f g two some few m n o q =
     let z : at + 1 + 2 ≡ at + 1 + 1 + 1 = omega arith in
     let v : (at + 1 + 1 + 1 + (b % 128 + 128 * h)) - (at + 1 + 1 + 1) ≡ b % 128 + 128 * h = omega arith in
     rw (short-tag s at t (omega arith) e some few, two, two-len s (at + 1) b h l f g m n o (omega arith), z, v)
 
-pub no-field : (s : List ℕ) (at : ℕ) → length s ≤ at → step.End ≡ readField s at
+pub no-field : (mode : Mode) (s : List ℕ) (at : ℕ) → length s ≤ at → step.End ≡ readField mode s at
 unfolding readField readTag
-no-field s at h = rw (le-leb (length s) at h)
+no-field mode s at h = rw (le-leb (length s) at h)

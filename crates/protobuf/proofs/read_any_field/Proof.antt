@@ -13,93 +13,71 @@ use Rattle.protobuf.proofs.is_middle.Reads as is-middle-reads
 use Rattle.protobuf.proofs.is_short.Reads as is-short-reads
 use Rattle.protobuf.proofs.read_long_field.Reads as read-long-field-reads
 
--- src/lib.rt:354:23
 add-tag-end : tie.Need-add-tag-end
 add-tag-end c = search needs
 
--- src/lib.rt:356:21
 shared-slice-read-t : tie.Need-shared-slice-read-t
 shared-slice-read-t c = search needs
 
--- src/lib.rt:357:21
 shared-slice-read-b : tie.Need-shared-slice-read-b
 shared-slice-read-b c = search needs
 
--- src/lib.rt:358:16
 is-short-requires : tie.Need-is-short-requires
 is-short-requires c κs = search needs
 
--- src/lib.rt:359:27
 add-end : tie.Need-add-end
 add-end c = search needs
 
--- src/lib.rt:361:28
-cast-t20 : tie.Need-cast-t20
-cast-t20 c = omega (arith, (c .before .before .before .shared-slice-known2 .given) ((c .before .before .before .before .before .before .before .args .idx)))
-
--- src/lib.rt:364:28
 cast-t21 : tie.Need-cast-t21
-cast-t21 c = omega (arith, (c .before .before .shared-slice-known3 .given) ((c .before .before .before .before .before .before .before .args .idx) + 1))
+cast-t21 c = omega (arith, (c .before .before .before .shared-slice-known2 .given) ((c .before .before .before .before .before .before .before .args .idx)))
 
--- src/lib.rt:360:17
+cast-t22 : tie.Need-cast-t22
+cast-t22 c = omega (arith, (c .before .before .shared-slice-known3 .given) ((c .before .before .before .before .before .before .before .args .idx) + 1))
+
 returns : tie.Need-returns
 returns c = let a = (c .before .before .before .before .before .before .before .args) in let q = (c .before .is-short .ensures) (c .if3 .taken) in
-    short-number (a .input .now) (a .idx) _ _ (c .before .before .before .before .if2 .taken) refl refl (q .0) (q .1) (q .2) (q .3)
+    short-number (a .mode) (a .input .now) (a .idx) _ _ (c .before .before .before .before .if2 .taken) refl refl (q .0) (q .1) (q .2) (q .3)
 
--- src/lib.rt:369:26
 add-second : tie.Need-add-second
 add-second c = search needs
 
--- src/lib.rt:371:25
 shared-slice-read-h : tie.Need-shared-slice-read-h
 shared-slice-read-h c = search needs
 
--- src/lib.rt:372:20
 is-middle-requires : tie.Need-is-middle-requires
 is-middle-requires c κs = search needs
 
--- src/lib.rt:373:33
 add-start : tie.Need-add-start
 add-start c = search needs
 
--- src/lib.rt:374:31
 cast-len : tie.Need-cast-len
 cast-len c = search needs
 
--- src/lib.rt:374:58
 cast-len-2 : tie.Need-cast-len-2
 cast-len-2 c = omega (arith, (c .before .before .shared-slice-known4 .given) ((c .before .before .before .before .before .before .before .before .before .before .before .args .idx) + 1 + 1))
 
--- src/lib.rt:374:52
 mul-len : tie.Need-mul-len
 mul-len c = omega (arith, (c .before .before .shared-slice-known4 .given) ((c .before .before .before .before .before .before .before .before .before .before .before .args .idx) + 1 + 1))
 
--- src/lib.rt:374:31
 add-len : tie.Need-add-len
 add-len c = omega (arith, (c .before .before .shared-slice-known4 .given) ((c .before .before .before .before .before .before .before .before .before .before .before .args .idx) + 1 + 1))
 
--- src/lib.rt:375:31
 sub-if6 : tie.Need-sub-if6
 sub-if6 c = search needs
 
--- src/lib.rt:377:36
-cast-t34 : tie.Need-cast-t34
-cast-t34 c = omega (arith, (c .before .before .before .before .before .before .before .before .shared-slice-known2 .given) ((c .before .before .before .before .before .before .before .before .before .before .before .before .args .idx)))
+cast-t35 : tie.Need-cast-t35
+cast-t35 c = omega (arith, (c .before .before .before .before .before .before .before .before .shared-slice-known2 .given) ((c .before .before .before .before .before .before .before .before .before .before .before .before .args .idx)))
 
--- src/lib.rt:382:35
-add-t36 : tie.Need-add-t36
-add-t36 c = search needs
+add-t37 : tie.Need-add-t37
+add-t37 c = search needs
 
--- src/lib.rt:376:25
 returns-2 : tie.Need-returns-2
 returns-2 c = let a = (c .before .before .before .before .before .before .before .before .before .before .before .before .args) in let q = (c .before .before .is-middle .ensures) (c .before .if5 .taken) in
-    middle-field (a .input .now) (a .idx) _ _ _ (c .before .before .before .before .if4 .taken) refl refl refl (q .0) (q .1) (q .2) (q .3) (q .4) (q .5) (c .if6 .taken)
+    middle-field (a .mode) (a .input .now) (a .idx) _ _ _ (c .before .before .before .before .if4 .taken) refl refl refl (q .0) (q .1) (q .2) (q .3) (q .4) (q .5) (c .if6 .taken)
 
--- src/lib.rt:389:5
 read-long-field-requires : tie.Need-read-long-field-requires
 read-long-field-requires c κs = search needs
 
--- src/lib.rt:350:1
 returns-3 : tie.Need-returns-3
 returns-3 c = search needs
 
@@ -112,8 +90,8 @@ read-any-field-spec =
     shared-slice-read-b
     is-short-requires
     add-end
-    cast-t20
     cast-t21
+    cast-t22
     returns
     add-second
     shared-slice-read-h
@@ -124,8 +102,8 @@ read-any-field-spec =
     mul-len
     add-len
     sub-if6
-    cast-t34
-    add-t36
+    cast-t35
+    add-t37
     returns-2
     read-long-field-requires
     returns-3)

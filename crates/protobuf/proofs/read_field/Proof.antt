@@ -7,68 +7,52 @@ use borrow.Author.Needs.{needs}
 use Rattle.protobuf.proofs.read_field.Statement.{statement}
 use Rattle.protobuf.proofs.read_field.Tie as tie
 
--- src/lib.rt:376:9
 returns : tie.Need-returns
-returns c = no-field ((c .before .before .args .input .now)) ((c .before .before .args .idx)) (c .if1 .taken)
+returns c = let a = c .before .before .args in no-field (a .mode) (a .input .now) (a .idx) (c .if1 .taken)
 
--- src/lib.rt:378:19
 add-tag-end : tie.Need-add-tag-end
 add-tag-end c = search needs
 
--- src/lib.rt:380:9
 read-any-field-requires : tie.Need-read-any-field-requires
 read-any-field-requires c κs = search needs
 
--- src/lib.rt:380:9
 returns-2 : tie.Need-returns-2
 returns-2 c = search needs
 
--- src/lib.rt:382:13
 shared-slice-read-t : tie.Need-shared-slice-read-t
 shared-slice-read-t c = search needs
 
--- src/lib.rt:383:13
 shared-slice-read-l : tie.Need-shared-slice-read-l
 shared-slice-read-l c = search needs
 
--- src/lib.rt:384:17
 add-start : tie.Need-add-start
 add-start c = search needs
 
--- src/lib.rt:385:15
 cast-len : tie.Need-cast-len
 cast-len c = omega (arith, (c .shared-slice-known3 .given) ((c .before .before .before .before .before .args .idx) + 1))
 
--- src/lib.rt:386:8
 is-short-requires : tie.Need-is-short-requires
 is-short-requires c κs = search needs
 
--- src/lib.rt:387:19
 sub-if4 : tie.Need-sub-if4
 sub-if4 c = search needs
 
--- src/lib.rt:389:24
-cast-t18 : tie.Need-cast-t18
-cast-t18 c = omega (arith, (c .before .before .before .before .shared-slice-known2 .given) ((c .before .before .before .before .before .before .before .before .args .idx)))
-
--- src/lib.rt:392:24
 cast-t19 : tie.Need-cast-t19
-cast-t19 c = search needs
+cast-t19 c = omega (arith, (c .before .before .before .before .shared-slice-known2 .given) ((c .before .before .before .before .before .before .before .before .args .idx)))
 
--- src/lib.rt:394:23
-add-t20 : tie.Need-add-t20
-add-t20 c = search needs
+cast-t20 : tie.Need-cast-t20
+cast-t20 c = search needs
 
--- src/lib.rt:388:13
+add-t21 : tie.Need-add-t21
+add-t21 c = search needs
+
 returns-3 : tie.Need-returns-3
 returns-3 c = let a = (c .before .before .before .before .before .before .before .before .args) in let q = (c .before .before .is-short .ensures) (c .before .if3 .taken) in
-    short-field (a .input .now) (a .idx) _ _ (omega (arith, (c .before .before .before .before .before .if2 .left))) refl refl (q .0) (q .1) (q .2) (q .3) (c .if4 .taken)
+    short-field (a .mode) (a .input .now) (a .idx) _ _ (omega (arith, (c .before .before .before .before .before .if2 .left))) refl refl (q .0) (q .1) (q .2) (q .3) (c .if4 .taken)
 
--- src/lib.rt:398:5
 read-any-field-requires-2 : tie.Need-read-any-field-requires-2
 read-any-field-requires-2 c κs = search needs
 
--- src/lib.rt:372:1
 returns-4 : tie.Need-returns-4
 returns-4 c = search needs
 
@@ -86,9 +70,9 @@ read-field-spec =
     cast-len
     is-short-requires
     sub-if4
-    cast-t18
     cast-t19
-    add-t20
+    cast-t20
+    add-t21
     returns-3
     read-any-field-requires-2
     returns-4)

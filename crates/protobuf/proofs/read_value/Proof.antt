@@ -38,8 +38,8 @@ enum-known-p c = search needs
 enum-known-p-2 : tie.Need-enum-known-p-2
 enum-known-p-2 c = search needs
 
-sub-t20 : tie.Need-sub-t20
-sub-t20 c = let a = c .before .before .before .before .before .before .before .args in part-fits (a .input .now) (a .tag-end) _ _ (sym (c .before .p2 .given .1) ∙ c .before .before .before .read-len-delimited .ensures) .1
+sub-t21 : tie.Need-sub-t21
+sub-t21 c = let a = c .before .before .before .before .before .before .before .args in part-fits (a .input .now) (a .tag-end) _ _ (sym (c .before .p2 .given .1) ∙ c .before .before .before .read-len-delimited .ensures) .1
 
 returns-3 : tie.Need-returns-3
 unfolding readValue
@@ -78,7 +78,7 @@ read-value-spec =
     read-len-delimited-requires
     enum-known-p
     enum-known-p-2
-    sub-t20
+    sub-t21
     returns-3
     returns-4
     skip-field-requires
