@@ -25,6 +25,7 @@ use Rattle.protobuf.specs.declared.Field.{Field}
 use Rattle.protobuf.specs.declared.Step.the-variants as step
 use Rattle.protobuf.specs.Field.{readTag, readLen, stringOf, readString, readVarint, skipField, ofValue, ofPart, ofSkip}
 use Rattle.protobuf.specs.Field.{readValue, ofTag, readField}
+use Rattle.protobuf.specs.Grammar.{maxGroups}
 use Rattle.protobuf.specs.Walk.{between}
 use Rattle.schema.specs.declared.Kind.{Kind}
 use Rattle.schema.specs.declared.Role.{Role}
@@ -60,7 +61,7 @@ of-value mode s n type to f h w =
     either (eqb type 0)
     (λ t0. absurd (value-none n type to f (readVarint s to) (eqb-true type 0 t0) (simp t0 at h) w))
     (λ t0. either (eqb type 2) (λ t2. of-part s n type to f (readLen s to) refl (simp (t0, t2) at h))
-    (λ t2. absurd (skip-none n type to f (skipField mode s to type) t2 (simp (t0, t2) at h) w)))
+    (λ t2. absurd (skip-none n type to f (skipField mode maxGroups s to n type) t2 (simp (t0, t2) at h) w)))
 
 of-tag : (mode : Mode) (s : List ℕ) (f : Field) (r : Tag) → step.At f ≡ ofTag mode s r → f .«wire_type» ≡ 2
     → readLen s (f .«tag_end») ≡ part.Bytes (f .start) (f .next)

@@ -549,7 +549,8 @@ pub fn body_records(dialect: Dialect, body: &[u8]) -> Tested
         return Tested::Refused(Refusal::nowhere(WireError::TooLarge { len: body.len() }));
     }
     let mode = dialect.mode;
-    let kind = Kind::Rpc(dialect.edition);
+    let edition = dialect.edition;
+    let kind = Kind::Rpc(edition);
     let c = count(mode, body, kind);
     match c {
         Counted::Refused(why) => Tested::Refused(placed(mode, body, kind, why)),

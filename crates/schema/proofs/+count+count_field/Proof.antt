@@ -28,10 +28,10 @@ use Rattle.schema.proofs.+count+count_field.{statement}
 use Rattle.schema.proofs.+count+count_field.Tie.{close}
 
 abbrev μ-count : Measures 1 count-kinds.ps ℕ
-μ-count κs a = 2 * rank (a .1 .0) + 1
+μ-count κs a = 2 * rank (a .1 .1 .0) + 1
 
 abbrev μ-count-field : Measures 1 count-field-kinds.ps ℕ
-μ-count-field κs a = 2 * rank (a .1 .0)
+μ-count-field κs a = 2 * rank (a .1 .1 .0)
 
 abbrev count-at : ℕ → In 1 count-kinds.ps
 count-at t = and 1 count-kinds.ps (is 1 count-kinds.ps μ-count t) count.Pre
@@ -54,13 +54,13 @@ abbrev count-field-claims : ℕ → count-field-lts.Claims
 count-field-claims t = (role-of-reads.Asked, role-of-reads.Learnt, count-text-reads.Asked, count-text-reads.Learnt, count-below t, count.Post, own-reads.Asked, own-reads.Learnt)
 
 abbrev count-Inv-loop : count-lts.InvT-loop
-count-Inv-loop input kind at₀ n₀ at n = (at ≤ length input) × (n ≤ at) × (counted kind input ≡ plus n (countAlong counted kind input (walkAt input at)))
+count-Inv-loop mode input kind at₀ n₀ at n = (at ≤ length input) × (n ≤ at) × (counted mode kind input ≡ plus n (countAlong (counted mode) kind input (walkAt mode input at)))
 
 abbrev count-μ-loop : count-lts.MeasureT-loop
-count-μ-loop input kind at₀ n₀ at n = length input - at
+count-μ-loop mode input kind at₀ n₀ at n = length input - at
 
 count-loop-holds : (t : ℕ) → count-lts.Need-loop-holds (count-claims t) (count-at t) count.Post count-Inv-loop count-μ-loop
-count-loop-holds t c = let a = c .before .args in (omega arith, omega arith, count-along (a .kind) (a .input .now) ∙ plus-none _)
+count-loop-holds t c = let a = c .before .args in (omega arith, omega arith, count-along (a .mode) (a .kind) (a .input .now) ∙ plus-none _)
 
 count-read-field-requires : (t : ℕ) → count-lts.Need-read-field-requires (count-claims t) (count-at t) count.Post count-Inv-loop count-μ-loop
 count-read-field-requires t c κs = search needs
@@ -72,7 +72,7 @@ count-returns : (t : ℕ) → count-lts.Need-returns (count-claims t) (count-at 
 count-returns t c =
     let a = c .before .before .before .before .before .before .args in
     let l = c .before .before .before .before .loop in
-    sym (l .inv .2 ∙ count-end (a .kind) (a .input .now) (l .at) (l .n) (sym (c .enum-told .given .1) ∙ c .before .before .read-field .ensures))
+    sym (l .inv .2 ∙ count-end (a .mode) (a .kind) (a .input .now) (l .at) (l .n) (sym (c .enum-told .given .1) ∙ c .before .before .read-field .ensures))
 
 count-enum-known-step : (t : ℕ) → count-lts.Need-enum-known-step (count-claims t) (count-at t) count.Post count-Inv-loop count-μ-loop
 count-enum-known-step t c = search needs
@@ -81,7 +81,7 @@ count-returns-2 : (t : ℕ) → count-lts.Need-returns-2 (count-claims t) (count
 count-returns-2 t c =
     let a = c .before .before .before .before .before .before .before .args in
     let l = c .before .before .before .before .before .loop in
-    sym (l .inv .2 ∙ count-refused (a .kind) (a .input .now) (l .at) (l .n) _ (sym (c .before .step .given .1) ∙ c .before .before .before .read-field .ensures))
+    sym (l .inv .2 ∙ count-refused (a .mode) (a .kind) (a .input .now) (l .at) (l .n) _ (sym (c .before .step .given .1) ∙ c .before .before .before .read-field .ensures))
 
 count-enum-known-step-2 : (t : ℕ) → count-lts.Need-enum-known-step-2 (count-claims t) (count-at t) count.Post count-Inv-loop count-μ-loop
 count-enum-known-step-2 t c = search needs
@@ -89,7 +89,7 @@ count-enum-known-step-2 t c = search needs
 count-count-field-requires : (t : ℕ) → count-lts.Need-count-field-requires (count-claims t) (count-at t) count.Post count-Inv-loop count-μ-loop
 count-count-field-requires t c κs =
     let a = c .before .before .before .before .before .before .before .args in
-    let m = field-stands (a .input .now) (c .before .before .before .before .before .loop .at) _ (sym (c .before .step2 .given .1) ∙ c .before .before .before .read-field .ensures) in
+    let m = field-stands (a .mode) (a .input .now) (c .before .before .before .before .before .loop .at) _ (sym (c .before .step2 .given .1) ∙ c .before .before .before .read-field .ensures) in
     (omega (arith, c .before .before .before .before .before .before .before .pre .0), record { order = m .ends; fits = m .within })
 
 count-enum-known-c : (t : ℕ) → count-lts.Need-enum-known-c (count-claims t) (count-at t) count.Post count-Inv-loop count-μ-loop
@@ -100,7 +100,7 @@ count-returns-3 t c =
     let a = c .before .before .before .before .before .before .before .before .before .before .before .args in
     let l = c .before .before .before .before .before .before .before .before .before .loop in
     let e = sym (c .before .before .before .before .before .step2 .given .1) ∙ c .before .before .before .before .before .before .before .read-field .ensures in
-    sym (l .inv .2 ∙ field-refused (a .kind) (a .input .now) (l .at) (l .n) _ _ e (sym (c .before .before .before .count-field .ensures) ∙ c .before .c .given .1))
+    sym (l .inv .2 ∙ field-refused (a .mode) (a .kind) (a .input .now) (l .at) (l .n) _ _ e (sym (c .before .before .before .count-field .ensures) ∙ c .before .c .given .1))
 
 count-enum-known-c-2 : (t : ℕ) → count-lts.Need-enum-known-c-2 (count-claims t) (count-at t) count.Post count-Inv-loop count-μ-loop
 count-enum-known-c-2 t c = search needs
@@ -109,14 +109,14 @@ count-add-n : (t : ℕ) → count-lts.Need-add-n (count-claims t) (count-at t) c
 count-add-n t c =
     let a = c .before .before .before .before .before .before .before .before .before .before .before .args in
     let l = c .before .before .before .before .before .before .before .before .before .loop in
-    let m = field-stands (a .input .now) (l .at) _ (sym (c .before .before .before .before .before .step2 .given .1) ∙ c .before .before .before .before .before .before .before .read-field .ensures) in
-    let f = field-fits (a .kind) (a .input .now) (l .at) _ _ m (sym (c .before .before .before .count-field .ensures) ∙ c .before .c2 .given .1) in
-    omega (arith, l .inv .1, c .before .before .before .before .before .before .before .before .before .before .before .good .0 .1)
+    let m = field-stands (a .mode) (a .input .now) (l .at) _ (sym (c .before .before .before .before .before .step2 .given .1) ∙ c .before .before .before .before .before .before .before .read-field .ensures) in
+    let f = field-fits (a .mode) (a .kind) (a .input .now) (l .at) _ _ m (sym (c .before .before .before .count-field .ensures) ∙ c .before .c2 .given .1) in
+    omega (arith, l .inv .1, c .before .before .before .before .before .before .before .before .before .before .before .good .1 .0 .1)
 
 count-loop-less : (t : ℕ) → count-lts.Need-loop-less (count-claims t) (count-at t) count.Post count-Inv-loop count-μ-loop
 count-loop-less t c =
     let a = c .before .before .before .before .before .before .before .before .before .before .before .args in
-    let m = field-stands (a .input .now) (c .before .before .before .before .before .before .before .before .before .loop .at) _ (sym (c .before .before .before .before .before .step2 .given .1) ∙ c .before .before .before .before .before .before .before .read-field .ensures) in
+    let m = field-stands (a .mode) (a .input .now) (c .before .before .before .before .before .before .before .before .before .loop .at) _ (sym (c .before .before .before .before .before .step2 .given .1) ∙ c .before .before .before .before .before .before .before .read-field .ensures) in
     omega arith
 
 count-loop-again : (t : ℕ) → count-lts.Need-loop-again (count-claims t) (count-at t) count.Post count-Inv-loop count-μ-loop
@@ -125,16 +125,16 @@ count-loop-again t c =
     let l = c .before .before .before .before .before .before .before .before .before .loop in
     let e = sym (c .before .before .before .before .before .step2 .given .1) ∙ c .before .before .before .before .before .before .before .read-field .ensures in
     let g = sym (c .before .before .before .count-field .ensures) ∙ c .before .c2 .given .1 in
-    let m = field-stands (a .input .now) (l .at) _ e in
-    let f = field-fits (a .kind) (a .input .now) (l .at) _ _ m g in
-    (m .within, omega (arith, l .inv .1), l .inv .2 ∙ count-turn (a .kind) (a .input .now) (l .at) (l .n) _ _ e g)
+    let m = field-stands (a .mode) (a .input .now) (l .at) _ e in
+    let f = field-fits (a .mode) (a .kind) (a .input .now) (l .at) _ _ m g in
+    (m .within, omega (arith, l .inv .1), l .inv .2 ∙ count-turn (a .mode) (a .kind) (a .input .now) (l .at) (l .n) _ _ e g)
 
 count-returns-4 : (t : ℕ) → count-lts.Need-returns-4 (count-claims t) (count-at t) count.Post count-Inv-loop count-μ-loop
 count-returns-4 t c =
     let a = c .before .before .before .args in
     let l = c .before .loop in
     let h : length (a .input .now) ≤ l .at = omega arith in
-    sym (l .inv .2 ∙ count-done (a .kind) (a .input .now) (l .at) (l .n) h)
+    sym (l .inv .2 ∙ count-done (a .mode) (a .kind) (a .input .now) (l .at) (l .n) h)
 
 count-field-role-of-requires : (t : ℕ) → count-field-lts.Need-role-of-requires (count-field-claims t) (count-field-at t) count-field.Post
 count-field-role-of-requires t c κs = search needs
@@ -190,11 +190,11 @@ count-field-enum-known-c-2 t c = search needs
 count-field-own-requires : (t : ℕ) → count-field-lts.Need-own-requires (count-field-claims t) (count-field-at t) count-field.Post
 count-field-own-requires t c κs = search needs
 
-count-field-add-t18 : (t : ℕ) → count-field-lts.Need-add-t18 (count-field-claims t) (count-field-at t) count-field.Post
-count-field-add-t18 t c =
+count-field-add-t19 : (t : ℕ) → count-field-lts.Need-add-t19 (count-field-claims t) (count-field-at t) count-field.Post
+count-field-add-t19 t c =
     let a = c .before .before .before .before .before .before .before .before .before .before .before .args in
     let s = a .input .now in
-    let f = count-fits _ _ _ (sym (c .before .before .before .before .count .ensures) ∙ c .before .before .c2 .given .1) in
+    let f = count-fits (a .mode) _ _ _ (sym (c .before .before .before .before .count .ensures) ∙ c .before .before .c2 .given .1) in
     omega (
       arith,
       own-one (c .before .before .before .before .before .before .before .role .given .0 .0),
@@ -202,7 +202,7 @@ count-field-add-t18 t c =
       length-take (a .f .next - a .f .start) (drop (a .f .start) s),
       c .before .before .before .before .before .before .before .before .before .before .before .pre .1 .order,
       c .before .before .before .before .before .before .before .before .before .before .before .pre .1 .fits,
-      c .before .before .before .before .before .before .before .before .before .before .before .good .0 .1,
+      c .before .before .before .before .before .before .before .before .before .before .before .good .1 .0 .1,
     )
 
 count-field-returns : (t : ℕ) → count-field-lts.Need-returns (count-field-claims t) (count-field-at t) count-field.Post
@@ -285,7 +285,7 @@ pub +count+count-field-spec : {M : Type 1} → statement M
     (count-field-enum-known-c t)
     (count-field-enum-known-c-2 t)
     (count-field-own-requires t)
-    (count-field-add-t18 t)
+    (count-field-add-t19 t)
     (count-field-enum-told-7 t)
     (count-field-returns t)
     (count-field-returns-2 t)

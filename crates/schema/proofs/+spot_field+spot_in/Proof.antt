@@ -30,10 +30,10 @@ use Rattle.schema.proofs.+spot_field+spot_in.{statement}
 use Rattle.schema.proofs.+spot_field+spot_in.Tie.{close}
 
 abbrev μ-spot-field : Measures 1 spot-field-kinds.ps ℕ
-μ-spot-field κs a = 2 * rank (a .1 .0)
+μ-spot-field κs a = 2 * rank (a .1 .1 .0)
 
 abbrev μ-spot-in : Measures 1 spot-in-kinds.ps ℕ
-μ-spot-in κs a = 2 * rank (a .1 .0) + 1
+μ-spot-in κs a = 2 * rank (a .1 .1 .0) + 1
 
 abbrev spot-field-at : ℕ → In 1 spot-field-kinds.ps
 spot-field-at t =
@@ -117,9 +117,9 @@ spot-field-enclose-requires t c κs =
     let a = b .args in
     let s = a .input .now in
     let p = between s (a .f .start) (a .f .next) in
-    let w = spot-within _ p in
+    let w = spot-within (a .mode) _ p in
     within-reaches (length p) (a .f .start) (c .spot-in .result) (subst (Within (length p)) (sym (c .spot-in .ensures)) w)
-    (omega (arith, length-take (a .f .next - a .f .start) (drop (a .f .start) s), b .pre .1 .order, b .pre .1 .fits, b .good .0 .1))
+    (omega (arith, length-take (a .f .next - a .f .start) (drop (a .f .start) s), b .pre .1 .order, b .pre .1 .fits, b .good .1 .0 .1))
 
 spot-field-enum-told-7 : (t : ℕ) → spot-field-lts.Need-enum-told-7 (spot-field-claims t) (spot-field-at t) spot-field.Post
 spot-field-enum-told-7 t c = search needs
@@ -159,13 +159,13 @@ unfolding fieldSpot
 spot-field-returns-8 t c = simp (sym (c .before .before .role-of .ensures) ∙ c .enum-told7 .given .1)
 
 abbrev spot-in-Inv-loop : spot-in-lts.InvT-loop
-spot-in-Inv-loop input kind at₀ at = (at ≤ length input) × (spotIn kind input ≡ spotAlong spotIn kind input (walkAt input at))
+spot-in-Inv-loop mode input kind at₀ at = (at ≤ length input) × (spotIn mode kind input ≡ spotAlong (spotIn mode) kind input (walkAt mode input at))
 
 abbrev spot-in-μ-loop : spot-in-lts.MeasureT-loop
-spot-in-μ-loop input kind at₀ at = length input - at
+spot-in-μ-loop mode input kind at₀ at = length input - at
 
 spot-in-loop-holds : (t : ℕ) → spot-in-lts.Need-loop-holds (spot-in-claims t) (spot-in-at t) spot-in.Post spot-in-Inv-loop spot-in-μ-loop
-spot-in-loop-holds t c = let a = c .before .args in (omega arith, spot-along (a .kind) (a .input .now))
+spot-in-loop-holds t c = let a = c .before .args in (omega arith, spot-along (a .mode) (a .kind) (a .input .now))
 
 spot-in-read-field-requires : (t : ℕ) → spot-in-lts.Need-read-field-requires (spot-in-claims t) (spot-in-at t) spot-in.Post spot-in-Inv-loop spot-in-μ-loop
 spot-in-read-field-requires t c κs = search needs
@@ -178,7 +178,7 @@ spot-in-returns t c =
     let a = c .before .before .before .before .before .before .args in
     let l = c .before .before .before .before .loop in
     let e = sym (c .enum-told .given .1) ∙ c .before .before .read-field .ensures in
-    sym (l .inv .1 ∙ spot-end (a .kind) (a .input .now) (l .at) e)
+    sym (l .inv .1 ∙ spot-end (a .mode) (a .kind) (a .input .now) (l .at) e)
 
 spot-in-enum-known-step : (t : ℕ) → spot-in-lts.Need-enum-known-step (spot-in-claims t) (spot-in-at t) spot-in.Post spot-in-Inv-loop spot-in-μ-loop
 spot-in-enum-known-step t c = search needs
@@ -191,7 +191,7 @@ spot-in-returns-2 t c =
     let a = c .before .before .before .before .before .before .before .before .args in
     let l = c .before .before .before .before .before .before .loop in
     let e = sym (c .before .before .step .given .1) ∙ c .before .before .before .before .read-field .ensures in
-    c .spot-of .ensures ∙ sym (l .inv .1 ∙ spot-refused (a .kind) (a .input .now) (l .at) _ e)
+    c .spot-of .ensures ∙ sym (l .inv .1 ∙ spot-refused (a .mode) (a .kind) (a .input .now) (l .at) _ e)
 
 spot-in-enum-known-step-2 : (t : ℕ) → spot-in-lts.Need-enum-known-step-2 (spot-in-claims t) (spot-in-at t) spot-in.Post spot-in-Inv-loop spot-in-μ-loop
 spot-in-enum-known-step-2 t c = search needs
@@ -201,7 +201,7 @@ spot-in-spot-field-requires t c κs =
     let b = c .before .before .before .before .before .before .before in
     let l = c .before .before .before .before .before .loop in
     let e = sym (c .before .step2 .given .1) ∙ c .before .before .before .read-field .ensures in
-    let m = field-stands (b .args .input .now) (l .at) _ e in
+    let m = field-stands (b .args .mode) (b .args .input .now) (l .at) _ e in
     (omega (arith, b .pre .0), record { order = m .ends; fits = m .within })
 
 spot-in-enum-told-2 : (t : ℕ) → spot-in-lts.Need-enum-told-2 (spot-in-claims t) (spot-in-at t) spot-in.Post spot-in-Inv-loop spot-in-μ-loop
@@ -213,7 +213,7 @@ spot-in-returns-3 t c =
     let a = b .before .before .before .before .before .before .args in
     let l = b .before .before .before .before .loop in
     let e = sym (b .step2 .given .1) ∙ b .before .before .read-field .ensures in
-    sym (l .inv .1 ∙ spot-found (a .kind) (a .input .now) (l .at) _ _ _ _ _ _ e (c .before .before .spot-field .ensures) (c .enum-told2 .given .1))
+    sym (l .inv .1 ∙ spot-found (a .mode) (a .kind) (a .input .now) (l .at) _ _ _ _ _ _ e (c .before .before .spot-field .ensures) (c .enum-told2 .given .1))
 
 spot-in-enum-told-3 : (t : ℕ) → spot-in-lts.Need-enum-told-3 (spot-in-claims t) (spot-in-at t) spot-in.Post spot-in-Inv-loop spot-in-μ-loop
 spot-in-enum-told-3 t c = search needs
@@ -223,7 +223,7 @@ spot-in-loop-less t c =
     let b = c .before .before .before .before in
     let a = b .before .before .before .before .before .before .args in
     let l = b .before .before .before .before .loop in
-    let m = field-stands (a .input .now) (l .at) _ (sym (b .step2 .given .1) ∙ b .before .before .read-field .ensures) in
+    let m = field-stands (a .mode) (a .input .now) (l .at) _ (sym (b .step2 .given .1) ∙ b .before .before .read-field .ensures) in
     omega arith
 
 spot-in-loop-again : (t : ℕ) → spot-in-lts.Need-loop-again (spot-in-claims t) (spot-in-at t) spot-in.Post spot-in-Inv-loop spot-in-μ-loop
@@ -232,15 +232,15 @@ spot-in-loop-again t c =
     let a = b .before .before .before .before .before .before .args in
     let l = b .before .before .before .before .loop in
     let e = sym (b .step2 .given .1) ∙ b .before .before .read-field .ensures in
-    let m = field-stands (a .input .now) (l .at) _ e in
-    (m .within, l .inv .1 ∙ spot-turn (a .kind) (a .input .now) (l .at) _ _ e (c .before .before .spot-field .ensures) (c .enum-told3 .given .1))
+    let m = field-stands (a .mode) (a .input .now) (l .at) _ e in
+    (m .within, l .inv .1 ∙ spot-turn (a .mode) (a .kind) (a .input .now) (l .at) _ _ e (c .before .before .spot-field .ensures) (c .enum-told3 .given .1))
 
 spot-in-returns-4 : (t : ℕ) → spot-in-lts.Need-returns-4 (spot-in-claims t) (spot-in-at t) spot-in.Post spot-in-Inv-loop spot-in-μ-loop
 spot-in-returns-4 t c =
     let a = c .before .before .before .args in
     let l = c .before .loop in
     let h : length (a .input .now) ≤ l .at = omega arith in
-    sym (l .inv .1 ∙ spot-done (a .kind) (a .input .now) (l .at) h)
+    sym (l .inv .1 ∙ spot-done (a .mode) (a .kind) (a .input .now) (l .at) h)
 
 pub +spot-field+spot-in-spec : {M : Type 1} → statement M
 +spot-field+spot-in-spec = close μ-spot-field μ-spot-in (λ t. spot-field-lts.spec (spot-field-claims t)

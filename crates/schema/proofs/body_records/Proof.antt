@@ -1,9 +1,6 @@
 -- `schema::body_records` meets its contract: the length, the count and the number of records pick the case.
 use mathlib.Core.Path.{_≡_, sym, ap, _∙_}
 use borrow.Author.Tests.{lt-ltb, le-ltb}
-use Rattle.basis.specs.declared.Spot.{Spot}
-use Rattle.protobuf.specs.declared.Refusal.{Refusal as Why}
-use Rattle.schema.specs.declared.Tested.{Tested}
 use Rattle.schema.specs.declared.Tested.the-variants.{Refused}
 use Rattle.schema.specs.Accept.{bodyRecords}
 use borrow.Author.Needs.{needs}
@@ -36,7 +33,7 @@ unfolding bodyRecords
 returns-3 c =
     let b = c .before .before in
     simp (le-ltb _ _ (b .before .before .before .if1 .left), sym (b .before .before .count .ensures) ∙ b .c .given .1)
-    (ap (λ (spot : Spot). Refused (record { why = b .c .given .0 .0; spot = spot })) (c .spot-in .ensures))
+    (ap Refused (c .placed .ensures))
 
 returns-4 : tie.Need-returns-4
 unfolding bodyRecords
