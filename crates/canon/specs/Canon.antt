@@ -6,6 +6,7 @@ use mathlib.Core.Bool.{cond}
 use mathlib.Core.List.{List, [], _++_}
 use lib.Dec.{eqb}
 use lib.ListN.{length}
+use Rattle.basis.specs.declared.Mode.{Mode}
 use Rattle.basis.specs.declared.Dialect.{Dialect}
 use Rattle.protobuf.specs.Walk.{Fields, end, refused, _then_, fieldsOf, between, isBytes, valueIn}
 use Rattle.protobuf.specs.Encode.{varintField, bytesField}
@@ -72,43 +73,43 @@ eachAlong g n s end = []
 eachAlong g n s (refused why) = []
 eachAlong g n s (f then w) = cond (isBytes n f) (g (valueIn s f)) [] ++ eachAlong g n s w
 
-abbrev pub eachOf : (List ℕ → List ℕ) → ℕ → List ℕ → List ℕ
-eachOf g n s = eachAlong g n s (fieldsOf s)
+abbrev pub eachOf : Mode → (List ℕ → List ℕ) → ℕ → List ℕ → List ℕ
+eachOf mode g n s = eachAlong g n s (fieldsOf mode s)
 
 -- what is written of the entries of the field n; `sub` gives the canonical bytes of a submessage
-unfoldable pub heldPart : (Kind → List ℕ → List ℕ) → ℕ → List ℕ → Held → List ℕ
-heldPart sub n s held.Nothing = []
-heldPart sub n s held.Whole = eachOf (bytesField n) n s
-heldPart sub n s (held.Anew j) = eachOf (λ p. bytesField n (sub j p)) n s
-heldPart sub n s (held.Merged j) = []
+unfoldable pub heldPart : Mode → (Kind → List ℕ → List ℕ) → ℕ → List ℕ → Held → List ℕ
+heldPart mode sub n s held.Nothing = []
+heldPart mode sub n s held.Whole = eachOf mode (bytesField n) n s
+heldPart mode sub n s (held.Anew j) = eachOf mode (λ p. bytesField n (sub j p)) n s
+heldPart mode sub n s (held.Merged j) = []
 
 -- ---- a message
-abbrev pub partWith : (Kind → List ℕ → List ℕ) → Kind → List ℕ → ℕ → List ℕ
-partWith sub k s n = ownPart (slotsOf k s) n s (rowOf k n) ++ heldPart sub n s (heldOf (rowOf k n))
+abbrev pub partWith : Mode → (Kind → List ℕ → List ℕ) → Kind → List ℕ → ℕ → List ℕ
+partWith mode sub k s n = ownPart (slotsOf mode k s) n s (rowOf k n) ++ heldPart mode sub n s (heldOf (rowOf k n))
 
-abbrev pub canonStep : (Kind → List ℕ → List ℕ) → Kind → List ℕ → List ℕ
-canonStep sub k s = allFields k (partWith sub k s)
+abbrev pub canonStep : Mode → (Kind → List ℕ → List ℕ) → Kind → List ℕ → List ℕ
+canonStep mode sub k s = allFields k (partWith mode sub k s)
 
-unfoldable pub canon : Kind → List ℕ → List ℕ
-canon k s = overKinds canonStep [] k s
+unfoldable pub canon : Mode → Kind → List ℕ → List ℕ
+canon mode k s = overKinds (canonStep mode) [] k s
 
 -- ---- a body: as a message, and submessages that are merged are one, be it empty
 -- the entries m of each submessage n, one submessage after the other
-unfoldable pub entriesOf : Kind → ℕ → List ℕ → ℕ → List ℕ
-entriesOf j n s m = eachOf (λ p. heldPart canon m p (heldOf (rowOf j m))) n s
+unfoldable pub entriesOf : Mode → Kind → ℕ → List ℕ → ℕ → List ℕ
+entriesOf mode j n s m = eachOf mode (λ p. heldPart mode (canon mode) m p (heldOf (rowOf j m))) n s
 
-unfoldable pub mergedOf : Kind → ℕ → List ℕ → List ℕ
-mergedOf j n s = allFields j (entriesOf j n s)
+unfoldable pub mergedOf : Mode → Kind → ℕ → List ℕ → List ℕ
+mergedOf mode j n s = allFields j (entriesOf mode j n s)
 
-unfoldable pub bodyPart : List ℕ → ℕ → Held → List ℕ
-bodyPart s n held.Nothing = []
-bodyPart s n held.Whole = heldPart canon n s held.Whole
-bodyPart s n (held.Anew j) = heldPart canon n s (held.Anew j)
-bodyPart s n (held.Merged j) = cond (hasField n s) (bytesField n (mergedOf j n s)) []
+unfoldable pub bodyPart : Mode → List ℕ → ℕ → Held → List ℕ
+bodyPart mode s n held.Nothing = []
+bodyPart mode s n held.Whole = heldPart mode (canon mode) n s held.Whole
+bodyPart mode s n (held.Anew j) = heldPart mode (canon mode) n s (held.Anew j)
+bodyPart mode s n (held.Merged j) = cond (hasField mode n s) (bytesField n (mergedOf mode j n s)) []
 
 unfoldable pub canonBody : Dialect → List ℕ → List ℕ
-canonBody d s = allFields (kind.Rpc d) (λ n. bodyPart s n (heldOf (rowOf (kind.Rpc d) n)))
+canonBody d s = allFields (kind.Rpc (d .edition)) (λ n. bodyPart (d .mode) s n (heldOf (rowOf (kind.Rpc (d .edition)) n)))
 
 -- ---- the bytes that are signed, of a message: `libp2p-pubsub:`, then from, data, seqno and every topic
-unfoldable pub signOf : List ℕ → List ℕ
-signOf p = signPrefix ++ canon kind.RawMessage p
+unfoldable pub signOf : Mode → List ℕ → List ℕ
+signOf mode p = signPrefix ++ canon mode kind.RawMessage p

@@ -2,6 +2,7 @@
 -- of the scope's table: 10, 1 to 7, 11, 20, 12.
 use Prim.Native.Nat.{ℕ}
 use mathlib.Core.List.{List}
+use Rattle.basis.specs.declared.Mode.{Mode}
 use Rattle.basis.specs.declared.Dialect.{Dialect}
 use Rattle.basis.specs.Writing.{answer, written}
 use Rattle.protobuf.specs.declared.Checked.{Checked}
@@ -15,24 +16,24 @@ use Rattle.schema.specs.Accept.{acceptOf}
 use Rattle.ids.specs.Ids.{messageAt, ofWritten}
 use Rattle.canon.specs.Canon.{signOf}
 
-abbrev pub signAt : List ℕ → List ℕ → MessageAt → MessageBytes
-signAt s out (Count n) = NoMessage n
-signAt s out (At a e) = ofWritten (answer (signOf (between s a e)) out)
+abbrev pub signAt : Mode → List ℕ → List ℕ → MessageAt → MessageBytes
+signAt mode s out (Count n) = NoMessage n
+signAt mode s out (At a e) = ofWritten (answer (signOf mode (between s a e)) out)
 
-abbrev pub signChecked : List ℕ → ℕ → List ℕ → Checked → MessageBytes
-signChecked s i out (Wrong why) = Refused why
-signChecked s i out Fine = signAt s out (messageAt s i)
+abbrev pub signChecked : Mode → List ℕ → ℕ → List ℕ → Checked → MessageBytes
+signChecked mode s i out (Wrong why) = Refused why
+signChecked mode s i out Fine = signAt mode s out (messageAt mode s i)
 
 unfoldable pub signAnswer : Dialect → List ℕ → ℕ → List ℕ → MessageBytes
-signAnswer d s i out = signChecked s i out (acceptOf d s)
+signAnswer d s i out = signChecked (d .mode) s i out (acceptOf d s)
 
-abbrev pub signedAt : List ℕ → List ℕ → MessageAt → List ℕ
-signedAt s out (Count n) = out
-signedAt s out (At a e) = written (signOf (between s a e)) out
+abbrev pub signedAt : Mode → List ℕ → List ℕ → MessageAt → List ℕ
+signedAt mode s out (Count n) = out
+signedAt mode s out (At a e) = written (signOf mode (between s a e)) out
 
-abbrev pub signedChecked : List ℕ → ℕ → List ℕ → Checked → List ℕ
-signedChecked s i out (Wrong why) = out
-signedChecked s i out Fine = signedAt s out (messageAt s i)
+abbrev pub signedChecked : Mode → List ℕ → ℕ → List ℕ → Checked → List ℕ
+signedChecked mode s i out (Wrong why) = out
+signedChecked mode s i out Fine = signedAt mode s out (messageAt mode s i)
 
 unfoldable pub signLeft : Dialect → List ℕ → ℕ → List ℕ → List ℕ
-signLeft d s i out = signedChecked s i out (acceptOf d s)
+signLeft d s i out = signedChecked (d .mode) s i out (acceptOf d s)

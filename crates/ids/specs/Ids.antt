@@ -5,6 +5,7 @@ use mathlib.Core.List.{List, [], _∷_, _++_}
 use mathlib.Core.Bool.{Bool, true, false, cond, _||_}
 use lib.ListN.{length}
 use lib.Dec.{ltb, eqb}
+use Rattle.basis.specs.declared.Mode.{Mode}
 use Rattle.basis.specs.declared.Dialect.{Dialect}
 use Rattle.basis.specs.declared.Written.{Written}
 use Rattle.basis.specs.declared.Written.the-variants as done
@@ -32,8 +33,8 @@ messageAlong i n (refused why) = Count n
 messageAlong i n (f then w) = cond (isBytes 2 f) (cond (eqb n i) (At (f .start) (f .next)) (messageAlong i (n + 1) w))
     (messageAlong i n w)
 
-unfoldable pub messageAt : List ℕ → ℕ → MessageAt
-messageAt s i = messageAlong i 0 (fieldsOf s)
+unfoldable pub messageAt : Mode → List ℕ → ℕ → MessageAt
+messageAt mode s i = messageAlong i 0 (fieldsOf mode s)
 
 -- ---- an id: from and seqno, of 1 to 64 bytes each
 abbrev pub onSeqno : ℕ → ℕ → Place → MessageId
@@ -45,8 +46,8 @@ onFrom place.Absent q = id.MissingFrom
 onFrom (place.Present a e) q = cond (eqb (e - a) 0 || ltb 64 (e - a)) (id.InvalidFrom (e - a)) (onSeqno a e q)
 
 -- where from and seqno stand in a message, or why it has no id
-unfoldable pub idParts : List ℕ → MessageId
-idParts p = onFrom (slotsOf kind.RawMessage p .first) (slotsOf kind.RawMessage p .third)
+unfoldable pub idParts : Mode → List ℕ → MessageId
+idParts mode p = onFrom (slotsOf mode kind.RawMessage p .first) (slotsOf mode kind.RawMessage p .third)
 
 -- ---- what is answered and left
 abbrev pub ofWritten : Written → MessageBytes
@@ -70,27 +71,27 @@ leftId pre p out (id.InvalidFrom n) = out
 leftId pre p out id.InvalidSeqno = out
 leftId pre p out (id.Parts a e b f) = written (pre ++ idBytes p a e b f) out
 
-abbrev pub answerAt : List ℕ → List ℕ → List ℕ → MessageAt → MessageBytes
-answerAt pre s out (Count n) = NoMessage n
-answerAt pre s out (At a e) = answerId pre (between s a e) out (idParts (between s a e))
+abbrev pub answerAt : Mode → List ℕ → List ℕ → List ℕ → MessageAt → MessageBytes
+answerAt mode pre s out (Count n) = NoMessage n
+answerAt mode pre s out (At a e) = answerId pre (between s a e) out (idParts mode (between s a e))
 
-abbrev pub leftAt : List ℕ → List ℕ → List ℕ → MessageAt → List ℕ
-leftAt pre s out (Count n) = out
-leftAt pre s out (At a e) = leftId pre (between s a e) out (idParts (between s a e))
+abbrev pub leftAt : Mode → List ℕ → List ℕ → List ℕ → MessageAt → List ℕ
+leftAt mode pre s out (Count n) = out
+leftAt mode pre s out (At a e) = leftId pre (between s a e) out (idParts mode (between s a e))
 
-abbrev pub answerChecked : List ℕ → List ℕ → ℕ → List ℕ → Checked → MessageBytes
-answerChecked pre s i out (Wrong why) = Refused why
-answerChecked pre s i out Fine = answerAt pre s out (messageAt s i)
+abbrev pub answerChecked : Mode → List ℕ → List ℕ → ℕ → List ℕ → Checked → MessageBytes
+answerChecked mode pre s i out (Wrong why) = Refused why
+answerChecked mode pre s i out Fine = answerAt mode pre s out (messageAt mode s i)
 
-abbrev pub leftChecked : List ℕ → List ℕ → ℕ → List ℕ → Checked → List ℕ
-leftChecked pre s i out (Wrong why) = out
-leftChecked pre s i out Fine = leftAt pre s out (messageAt s i)
+abbrev pub leftChecked : Mode → List ℕ → List ℕ → ℕ → List ℕ → Checked → List ℕ
+leftChecked mode pre s i out (Wrong why) = out
+leftChecked mode pre s i out Fine = leftAt mode pre s out (messageAt mode s i)
 
 unfoldable pub idAnswer : List ℕ → Dialect → List ℕ → ℕ → List ℕ → MessageBytes
-idAnswer pre d s i out = answerChecked pre s i out (acceptOf d s)
+idAnswer pre d s i out = answerChecked (d .mode) pre s i out (acceptOf d s)
 
 unfoldable pub idLeft : List ℕ → Dialect → List ℕ → ℕ → List ℕ → List ℕ
-idLeft pre d s i out = leftChecked pre s i out (acceptOf d s)
+idLeft pre d s i out = leftChecked (d .mode) pre s i out (acceptOf d s)
 
 -- the mark byte: 1 for a signed message, 0 for one that is not
 abbrev pub mark : Bool → ℕ

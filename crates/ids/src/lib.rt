@@ -10,6 +10,7 @@ ghost use lib.ListN.{length};
 ghost use Rattle.basis.specs.Unique.{Leaves};
 ghost use Rattle.protobuf.specs.Walk.{isBytes};
 ghost use Rattle.ids.specs.Ids.{messageAt, onFrom, idParts, answerId, leftId, idAnswer, idLeft, mark};
+use basis::Mode;
 use basis::Dialect;
 use protobuf::Checked;
 use protobuf::Field;
@@ -79,13 +80,13 @@ fn messages_after(f: Field, n: usize) -> usize
 }
 
 // The message at an index, counted from 0.
-pub fn message_at(body: &[u8], index: usize) -> MessageAt
-    ensures { λ r. ⌜ r ≡ messageAt (now (body .entry)) index ⌝ }
+pub fn message_at(mode: Mode, body: &[u8], index: usize) -> MessageAt
+    ensures { λ r. ⌜ r ≡ messageAt mode (now (body .entry)) index ⌝ }
 {
     let mut at: usize = 0;
     let mut n: usize = 0;
     while at < body.len() {
-        let step = read_field(body, at);
+        let step = read_field(mode, body, at);
         match step {
             Step::End => {
                 return MessageAt::Count(n);
@@ -151,22 +152,22 @@ pub fn id_of(from: Place, seqno: Place) -> MessageId
 }
 
 // Where from and seqno stand in a message.
-pub fn id_parts(part: &[u8]) -> MessageId
-    ensures { λ r. ⌜ r ≡ idParts (now (part .entry)) ⌝ }
+pub fn id_parts(mode: Mode, part: &[u8]) -> MessageId
+    ensures { λ r. ⌜ r ≡ idParts mode (now (part .entry)) ⌝ }
 {
-    let slots = slots_of(part, Kind::RawMessage);
+    let slots = slots_of(mode, part, Kind::RawMessage);
     let from = slots.first;
     let seqno = slots.third;
     id_of(from, seqno)
 }
 
 // Writes some bytes and then the id of a message, from and seqno, at the front of out.
-fn put_id(before: &[u8], part: &[u8], out: &mut [u8]) -> MessageBytes
+fn put_id(mode: Mode, before: &[u8], part: &[u8], out: &mut [u8]) -> MessageBytes
     requires { ⌜ length (now before) ≤ 1 ⌝ }
-    ensures { λ r. ⌜ r ≡ answerId (now (before .entry)) (now (part .entry)) (now (out .entry)) (idParts (now (part .entry))) ⌝ }
-    ensures { λ _. ⌜ now (out .exit) ≡ leftId (now (before .entry)) (now (part .entry)) (now (out .entry)) (idParts (now (part .entry))) ⌝ }
+    ensures { λ r. ⌜ r ≡ answerId (now (before .entry)) (now (part .entry)) (now (out .entry)) (idParts mode (now (part .entry))) ⌝ }
+    ensures { λ _. ⌜ now (out .exit) ≡ leftId (now (before .entry)) (now (part .entry)) (now (out .entry)) (idParts mode (now (part .entry))) ⌝ }
 {
-    let id = id_parts(part);
+    let id = id_parts(mode, part);
     match id {
         MessageId::MissingFrom => MessageBytes::MissingFrom,
         MessageId::InvalidFrom(n) => MessageBytes::InvalidFrom(n),
@@ -201,14 +202,15 @@ fn put_id_at(
     ensures { λ r. ⌜ r ≡ idAnswer (now (before .entry)) dialect (now (body .entry)) index (now (out .entry)) ⌝ }
     ensures { λ _. ⌜ now (out .exit) ≡ idLeft (now (before .entry)) dialect (now (body .entry)) index (now (out .entry)) ⌝ }
 {
+    let mode = dialect.mode;
     let c = accept(dialect, body);
     match c {
         Checked::Refused(why) => MessageBytes::Refused(why),
         Checked::Fine => {
-            let m = message_at(body, index);
+            let m = message_at(mode, body, index);
             match m {
                 MessageAt::Count(n) => MessageBytes::NoMessage(n),
-                MessageAt::At { start, end } => put_id(before, &body[start..end], out),
+                MessageAt::At { start, end } => put_id(mode, before, &body[start..end], out),
             }
         }
     }

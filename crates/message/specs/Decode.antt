@@ -6,6 +6,7 @@ use mathlib.Core.Bool.{Bool, cond}
 use lib.ListN.{length}
 use lib.Seq.{sets}
 use lib.Dec.{ltb}
+use Rattle.basis.specs.declared.Mode.{Mode}
 use Rattle.basis.specs.declared.Dialect.{Dialect}
 use Rattle.schema.specs.declared.Kind.the-variants as kind
 use Rattle.schema.specs.declared.Tested.{Tested}
@@ -17,8 +18,8 @@ use Rattle.schema.specs.Slots.{hasField}
 use Rattle.message.specs.Rows.{rowsOf, wordsOfAll}
 
 -- a length-delimited field 3 is there, so the body has a control
-unfoldable pub hasControl : List ℕ → Bool
-hasControl s = hasField 3 s
+unfoldable pub hasControl : Mode → List ℕ → Bool
+hasControl mode s = hasField mode 3 s
 
 -- with room for so many records
 abbrev pub onCount : ℕ → Bool → Tested → Decoded
@@ -26,11 +27,11 @@ onCount room c (tested.Refused r) = Refused r
 onCount room c (tested.Records n) = cond (ltb room n) (Room n) (Records n c)
 
 unfoldable pub decodeAnswer : Dialect → List ℕ → ℕ → Decoded
-decodeAnswer d s words = onCount (words / 20) (hasControl s) (bodyRecords d s)
+decodeAnswer d s words = onCount (words / 20) (hasControl (d .mode) s) (bodyRecords d s)
 
 -- the records stand at the front of the table; a refusal changes nothing
 abbrev pub leaves : Dialect → List ℕ → List ℕ → Decoded → List ℕ
-leaves d s t (Records n c) = sets t 0 (wordsOfAll (rowsOf (kind.Rpc d) 0 s))
+leaves d s t (Records n c) = sets t 0 (wordsOfAll (rowsOf (d .mode) (kind.Rpc (d .edition)) 0 s))
 leaves d s t (Refused r) = t
 leaves d s t (Room n) = t
 

@@ -6,8 +6,8 @@ use mathlib.Core.List.{List, [], _∷_, _++_}
 use mathlib.Core.Bool.{cond}
 use lib.ListN.{length, getD}
 use lib.Dec.{eqb, leb}
+use Rattle.basis.specs.declared.Mode.{Mode}
 use Rattle.basis.specs.declared.Edition.the-variants.{V11}
-use Rattle.basis.specs.declared.Dialect.{Dialect}
 use Rattle.protobuf.specs.declared.Field.{Field}
 use Rattle.protobuf.specs.Walk.{Fields, end, refused, _then_, fieldsOf, between}
 use Rattle.schema.specs.declared.Kind.{Kind}
@@ -53,28 +53,28 @@ rowsAlong sub k base s (f then w) = roleRows sub base s f (roleOf k (f .field) (
     ++ rowsAlong sub k base s w
 
 -- the message's own record, where its kind has one
-unfoldable pub ownRows : Kind → ℕ → List ℕ → List Record
-ownRows k base s =
-    cond (eqb (ownOf k) 0) [] (record { kind = k; start = base; end = base + length s; slots = slotsOf k s } ∷ [])
+unfoldable pub ownRows : Mode → Kind → ℕ → List ℕ → List Record
+ownRows mode k base s =
+    cond (eqb (ownOf k) 0) [] (record { kind = k; start = base; end = base + length s; slots = slotsOf mode k s } ∷ [])
 
 -- a message that stands at a base, with what stands inside it
-abbrev pub rowsStep : (Kind → ℕ × List ℕ → List Record) → Kind → ℕ × List ℕ → List Record
-rowsStep sub k x = ownRows k (x .0) (x .1) ++ rowsAlong (λ j b p. sub j (b, p)) k (x .0) (x .1) (fieldsOf (x .1))
+abbrev pub rowsStep : Mode → (Kind → ℕ × List ℕ → List Record) → Kind → ℕ × List ℕ → List Record
+rowsStep mode sub k x = ownRows mode k (x .0) (x .1) ++ rowsAlong (λ j b p. sub j (b, p)) k (x .0) (x .1) (fieldsOf mode (x .1))
 
-unfoldable pub rowsOf : Kind → ℕ → List ℕ → List Record
-rowsOf k base s = overKinds rowsStep [] k (base, s)
+unfoldable pub rowsOf : Mode → Kind → ℕ → List ℕ → List Record
+rowsOf mode k base s = overKinds (rowsStep mode) [] k (base, s)
 
 -- one field of a message of kind k
-unfoldable pub fieldRows : Kind → ℕ → List ℕ → Field → List Record
-fieldRows k base s f = roleRows rowsOf base s f (roleOf k (f .field) (f .«wire_type»))
+unfoldable pub fieldRows : Mode → Kind → ℕ → List ℕ → Field → List Record
+fieldRows mode k base s f = roleRows (rowsOf mode) base s f (roleOf k (f .field) (f .«wire_type»))
 
 -- ---- a record in the table
 unfoldable pub kindCode : Kind → ℕ
-kindCode (kind.Rpc d) = 0
+kindCode (kind.Rpc e) = 0
 kindCode kind.SubOpts = 1
 kindCode kind.RawMessage = 2
 kindCode kind.Topic = 3
-kindCode (kind.ControlMessage d) = 4
+kindCode (kind.ControlMessage e) = 4
 kindCode kind.ControlIHave = 5
 kindCode kind.ControlIWant = 6
 kindCode kind.MessageId = 7
@@ -103,23 +103,20 @@ abbrev pub wordsOfAll : List Record → List ℕ
 wordsOfAll [] = []
 wordsOfAll (r ∷ rs) = wordsOf r ++ wordsOfAll rs
 
--- ---- and read back: no record has the codes 0 and 4, and for these it is the first dialect
-abbrev pub firstDialect : Dialect
-firstDialect = record { edition = V11 }
-
+-- ---- and read back: no record has the codes 0 and 4, and for these it is the first edition
 unfoldable pub kindFrom : ℕ → Kind
 kindFrom c =
     cond (eqb c 1) kind.SubOpts
     (cond (eqb c 2) kind.RawMessage
     (cond (eqb c 3) kind.Topic
-    (cond (eqb c 4) (kind.ControlMessage firstDialect)
+    (cond (eqb c 4) (kind.ControlMessage V11)
     (cond (eqb c 5) kind.ControlIHave
     (cond (eqb c 6) kind.ControlIWant
     (cond (eqb c 7) kind.MessageId
     (cond (eqb c 8) kind.ControlGraft
     (cond (eqb c 9) kind.ControlPrune
     (cond (eqb c 10) kind.PeerInfo
-    (cond (eqb c 11) kind.ControlIDontWant (kind.Rpc firstDialect)))))))))))
+    (cond (eqb c 11) kind.ControlIDontWant (kind.Rpc V11)))))))))))
 
 -- the record that stands in a table from word i on
 unfoldable pub recordFrom : List ℕ → ℕ → Record

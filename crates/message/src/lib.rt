@@ -12,6 +12,7 @@ ghost use Rattle.schema.specs.Slots.{noSlots};
 ghost use Rattle.schema.specs.Count.{FieldWithin};
 ghost use Rattle.message.specs.Rows.{bareRow, ownRows, rowsOf, fieldRows, kindCode, numberWords, placeWords, placesWords, wordsOf, wordsOfAll, kindFrom, recordAt};
 ghost use Rattle.message.specs.Decode.{hasControl, decodeAnswer, decodeTable};
+use basis::Mode;
 use basis::Dialect;
 use basis::Edition;
 use protobuf::Field;
@@ -159,6 +160,7 @@ fn put_record(table: &mut [u64], row: usize, r: Record)
 
 // Writes the records of a field of a message whose bytes begin at base, from a row on; the row after them.
 fn write_field(
+    mode: Mode,
     input: &[u8],
     kind: Kind,
     base: usize,
@@ -166,9 +168,9 @@ fn write_field(
     table: &mut [u64],
     row: usize,
 ) -> usize
-    requires { ⌜ (base + length (now input) ≤ 65536) × FieldWithin (now input) f × ((row + length (fieldRows kind base (now input) f)) * 20 ≤ length (now table)) ⌝ }
-    ensures { λ r. ⌜ r ≡ row + length (fieldRows kind base (now (input .entry)) f) ⌝ }
-    ensures { λ _. ⌜ now (table .exit) ≡ sets (now (table .entry)) (row * 20) (wordsOfAll (fieldRows kind base (now (input .entry)) f)) ⌝ }
+    requires { ⌜ (base + length (now input) ≤ 65536) × FieldWithin (now input) f × ((row + length (fieldRows mode kind base (now input) f)) * 20 ≤ length (now table)) ⌝ }
+    ensures { λ r. ⌜ r ≡ row + length (fieldRows mode kind base (now (input .entry)) f) ⌝ }
+    ensures { λ _. ⌜ now (table .exit) ≡ sets (now (table .entry)) (row * 20) (wordsOfAll (fieldRows mode kind base (now (input .entry)) f)) ⌝ }
 {
     let start = f.start;
     let next = f.next;
@@ -180,7 +182,7 @@ fn write_field(
         Role::Bytes(_) => row,
         Role::Topic => write_leaf(Kind::Topic, base + start, base + next, table, row),
         Role::MessageId => write_leaf(Kind::MessageId, base + start, base + next, table, row),
-        Role::Sub(k, _) => write_message(&input[start..next], k, base + start, table, row),
+        Role::Sub(k, _) => write_message(mode, &input[start..next], k, base + start, table, row),
         Role::Unsigned(_) => row,
     }
 }
@@ -211,16 +213,16 @@ fn write_leaf(kind: Kind, start: usize, end: usize, table: &mut [u64], row: usiz
 }
 
 // Writes a message's own record, where its kind has one; the row after it.
-fn write_own(input: &[u8], kind: Kind, base: usize, table: &mut [u64], row: usize) -> usize
+fn write_own(mode: Mode, input: &[u8], kind: Kind, base: usize, table: &mut [u64], row: usize) -> usize
     requires { ⌜ (base + length (now input) ≤ 65536) × ((row + ownOf kind) * 20 ≤ length (now table)) ⌝ }
-    ensures { λ r. ⌜ r ≡ row + length (ownRows kind base (now (input .entry))) ⌝ }
-    ensures { λ _. ⌜ now (table .exit) ≡ sets (now (table .entry)) (row * 20) (wordsOfAll (ownRows kind base (now (input .entry)))) ⌝ }
+    ensures { λ r. ⌜ r ≡ row + length (ownRows mode kind base (now (input .entry))) ⌝ }
+    ensures { λ _. ⌜ now (table .exit) ≡ sets (now (table .entry)) (row * 20) (wordsOfAll (ownRows mode kind base (now (input .entry)))) ⌝ }
 {
     let o = own(kind);
     if o == 0 {
         return row;
     }
-    let slots = slots_of(input, kind);
+    let slots = slots_of(mode, input, kind);
     put_record(
         table,
         row,
@@ -235,15 +237,15 @@ fn write_own(input: &[u8], kind: Kind, base: usize, table: &mut [u64], row: usiz
 }
 
 // Writes the records of a message whose bytes begin at base, from a row on; the row after them.
-fn write_message(input: &[u8], kind: Kind, base: usize, table: &mut [u64], row: usize) -> usize
-    requires { ⌜ (base + length (now input) ≤ 65536) × ((row + length (rowsOf kind base (now input))) * 20 ≤ length (now table)) ⌝ }
-    ensures { λ r. ⌜ r ≡ row + length (rowsOf kind base (now (input .entry))) ⌝ }
-    ensures { λ _. ⌜ now (table .exit) ≡ sets (now (table .entry)) (row * 20) (wordsOfAll (rowsOf kind base (now (input .entry)))) ⌝ }
+fn write_message(mode: Mode, input: &[u8], kind: Kind, base: usize, table: &mut [u64], row: usize) -> usize
+    requires { ⌜ (base + length (now input) ≤ 65536) × ((row + length (rowsOf mode kind base (now input))) * 20 ≤ length (now table)) ⌝ }
+    ensures { λ r. ⌜ r ≡ row + length (rowsOf mode kind base (now (input .entry))) ⌝ }
+    ensures { λ _. ⌜ now (table .exit) ≡ sets (now (table .entry)) (row * 20) (wordsOfAll (rowsOf mode kind base (now (input .entry)))) ⌝ }
 {
     let mut at: usize = 0;
-    let mut next_row = write_own(input, kind, base, table, row);
+    let mut next_row = write_own(mode, input, kind, base, table, row);
     while at < input.len() {
-        let step = read_field(input, at);
+        let step = read_field(mode, input, at);
         match step {
             Step::End => {
                 return next_row;
@@ -252,7 +254,7 @@ fn write_message(input: &[u8], kind: Kind, base: usize, table: &mut [u64], row: 
                 return next_row;
             }
             Step::At(f) => {
-                next_row = write_field(input, kind, base, f, table, next_row);
+                next_row = write_field(mode, input, kind, base, f, table, next_row);
                 at = f.next;
             }
         }
@@ -261,10 +263,10 @@ fn write_message(input: &[u8], kind: Kind, base: usize, table: &mut [u64], row: 
 }
 
 // Whether a body has a control: a length-delimited field 3.
-pub fn has_control(body: &[u8]) -> bool
-    ensures { λ r. ⌜ r ≡ hasControl (now (body .entry)) ⌝ }
+pub fn has_control(mode: Mode, body: &[u8]) -> bool
+    ensures { λ r. ⌜ r ≡ hasControl mode (now (body .entry)) ⌝ }
 {
-    has_field(body, 3)
+    has_field(mode, body, 3)
 }
 
 // Reads a body: its records go to the lent table, from its first row on. A refusal leaves the table as it was.
@@ -272,6 +274,8 @@ pub fn decode(dialect: Dialect, body: &[u8], table: &mut [u64]) -> Decoded
     ensures { λ r. ⌜ Leaves (decodeAnswer dialect (now (body .entry)) (length (now (table .entry))))
         (decodeTable dialect (now (body .entry)) (now (table .entry))) r (now (table .exit)) ⌝ }
 {
+    let mode = dialect.mode;
+    let edition = dialect.edition;
     let c = body_records(dialect, body);
     match c {
         Tested::Refused(refusal) => Decoded::Refused(refusal),
@@ -279,14 +283,14 @@ pub fn decode(dialect: Dialect, body: &[u8], table: &mut [u64]) -> Decoded
             if table.len() / RECORD_WORDS < n {
                 return Decoded::Room(n);
             }
-            let control = has_control(body);
-            write_message(body, Kind::Rpc(dialect), 0, table, 0);
+            let control = has_control(mode, body);
+            write_message(mode, body, Kind::Rpc(edition), 0, table, 0);
             Decoded::Records { count: n, control }
         }
     }
 }
 
-// The kind that a number in the table stands for. 0 and 4 are the codes of no record: there the dialect is the first.
+// The kind that a number in the table stands for. 0 and 4 are the codes of no record: there the edition is the first.
 fn kind_from(code: u64) -> Kind
     ensures { λ r. ⌜ r ≡ kindFrom code ⌝ }
 {
@@ -300,9 +304,7 @@ fn kind_from(code: u64) -> Kind
         return Kind::Topic;
     }
     if code == 4 {
-        return Kind::ControlMessage(Dialect {
-            edition: Edition::V11,
-        });
+        return Kind::ControlMessage(Edition::V11);
     }
     if code == 5 {
         return Kind::ControlIHave;
@@ -325,9 +327,7 @@ fn kind_from(code: u64) -> Kind
     if code == 11 {
         return Kind::ControlIDontWant;
     }
-    Kind::Rpc(Dialect {
-        edition: Edition::V11,
-    })
+    Kind::Rpc(Edition::V11)
 }
 
 // The record at a row of a table, for the host; nothing where the table has no such row.
