@@ -49,9 +49,16 @@ skip-group-below t =
     and 1 skip-group-kinds.ps (falls 1 skip-group-kinds.ps _<_ μ-skip-group t) skip-group.Pre
 
 abbrev skip-field-claims : ℕ → skip-field-lts.Claims
-skip-field-claims t =
-    (read-varint-value-reads.Asked, read-varint-value-reads.Learnt, read-len-delimited-reads.Asked,
-    read-len-delimited-reads.Learnt, advance-reads.Asked, advance-reads.Learnt, skip-group-below t, skip-group.Post)
+skip-field-claims t = (
+  read-varint-value-reads.Asked,
+  read-varint-value-reads.Learnt,
+  read-len-delimited-reads.Asked,
+  read-len-delimited-reads.Learnt,
+  advance-reads.Asked,
+  advance-reads.Learnt,
+  skip-group-below t,
+  skip-group.Post,
+)
 
 abbrev skip-group-claims : ℕ → skip-group-lts.Claims
 skip-group-claims t = (read-tag-reads.Asked, read-tag-reads.Learnt, skip-field-below t, skip-field.Post)
@@ -292,9 +299,11 @@ skip-group-loop-again t c =
     c .before .before .before .before .before .before .before .before .read-tag .ensures in
     let g = sym (c .before .k2 .given .1) ∙ c .before .before .before .skip-field .ensures in
     let m = tag-moves (a .input .now) (l .at) _ _ _ q in
-    let k = skip-moves Groups (a .levels) (a .input .now) _ _ _ _ g in
-    (omega (arith, l .inv .0), goes-on (a .levels) (a .input .now) (l .at) (a .field) _ _ _ q _
-    (c .before .before .before .before .if1 .left) g ∙ l .inv .1)
+    let k = skip-moves Groups (a .levels) (a .input .now) _ _ _ _ g in (
+      omega (arith, l .inv .0),
+      goes-on (a .levels) (a .input .now) (l .at) (a .field) _ _ _ q _
+          (c .before .before .before .before .if1 .left) g ∙ l .inv .1,
+    )
 
 skip-group-returns-6 : (t : ℕ) → skip-group-lts.Need-returns-6 (skip-group-claims t) (skip-group-at t) skip-group.Post
     skip-group-Inv-loop skip-group-μ-loop
