@@ -7,6 +7,8 @@ use mathlib.Core.Bool.{Bool, true, false, cond, not, _&&_, _||_}
 use lib.ListN.{length, take, drop, getD}
 use lib.Seq.{sets}
 use lib.Dec.{ltb, eqb}
+use Rattle.basis.specs.declared.Mode.{Mode}
+use Rattle.basis.specs.Dialect.{modeOf}
 use Rattle.rows.specs.Rows.{tab}
 use Rattle.rows.specs.Ids.{sameBytes}
 use Rattle.peer_id.specs.declared.PeerId.{PeerId}
@@ -44,8 +46,8 @@ topicsAlong p end = []
 topicsAlong p (refused why) = []
 topicsAlong p (f then w) = cond (isBytes 4 f) (valueIn p f ∷ topicsAlong p w) (topicsAlong p w)
 
-unfoldable pub topicsOf : List ℕ → List (List ℕ)
-topicsOf p = topicsAlong p (fieldsOf p)
+unfoldable pub topicsOf : Mode → List ℕ → List (List ℕ)
+topicsOf mode p = topicsAlong p (fieldsOf mode p)
 
 -- ---- and where they stand in it: the first byte of each, counted from the message's own start, and its length
 pub record Span : Type 0 where
@@ -60,8 +62,8 @@ placesAlong end = []
 placesAlong (refused why) = []
 placesAlong (f then w) = cond (isBytes 4 f) (spanOf f ∷ placesAlong w) (placesAlong w)
 
-unfoldable pub topicPlaces : List ℕ → List Span
-topicPlaces p = placesAlong (fieldsOf p)
+unfoldable pub topicPlaces : Mode → List ℕ → List Span
+topicPlaces mode p = placesAlong (fieldsOf mode p)
 
 -- the bytes that stand there; `cut-topics` of TopicLaws: those of all its topics' places are its topics
 abbrev pub cut : List ℕ → Span → List ℕ
@@ -90,28 +92,28 @@ firstLong [] = 0
 firstLong (t ∷ ts) = cond (ltb 1024 (length t)) (length t) (firstLong ts)
 
 -- both
-abbrev pub topicsIn : List ℕ → Topics
-topicsIn p = record { count = length (topicsOf p); long = firstLong (topicsOf p) }
+abbrev pub topicsIn : Mode → List ℕ → Topics
+topicsIn mode p = record { count = length (topicsOf mode p); long = firstLong (topicsOf mode p) }
 
 -- what `topics_of` answers, and how it leaves two lists a and b: the starts and the lengths are written from their front
 -- on, as many as they have places for
-pub record FindsTopics (p a b : List ℕ) (r : Topics) (a2 b2 : List ℕ) : Type 0 where
-  pub topics : r ≡ topicsIn p
-  pub starts : a2 ≡ sets a 0 (startsOf (topicPlaces p))
-  pub sizes : b2 ≡ sets b 0 (sizesOf (topicPlaces p))
+pub record FindsTopics (mode : Mode) (p a b : List ℕ) (r : Topics) (a2 b2 : List ℕ) : Type 0 where
+  pub topics : r ≡ topicsIn mode p
+  pub starts : a2 ≡ sets a 0 (startsOf (topicPlaces mode p))
+  pub sizes : b2 ≡ sets b 0 (sizesOf (topicPlaces mode p))
 
 -- the length of the first topic that is too long, a field of n bytes further
 unfoldable pub longAfter : Field → ℕ → ℕ → ℕ
 longAfter f n long = cond (isBytes 4 f && (eqb long 0 && ltb 1024 n)) n long
 
 -- ---- 28, 29, 30
-unfoldable pub onLimits : List ℕ → Admission → Admission
-onLimits p r =
-    cond (eqb (length (topicsOf p)) 0 || ltb 4 (length (topicsOf p)))
-    (admission.Unfit (TopicCount (length (topicsOf p))))
-    (cond (eqb (firstLong (topicsOf p)) 0)
+unfoldable pub onLimits : Mode → List ℕ → Admission → Admission
+onLimits mode p r =
+    cond (eqb (length (topicsOf mode p)) 0 || ltb 4 (length (topicsOf mode p)))
+    (admission.Unfit (TopicCount (length (topicsOf mode p))))
+    (cond (eqb (firstLong (topicsOf mode p)) 0)
     (cond (ltb 4096 (length p)) (admission.Unfit (MessageTooLong (length p))) r)
-    (admission.Unfit (TopicTooLong (firstLong (topicsOf p)))))
+    (admission.Unfit (TopicTooLong (firstLong (topicsOf mode p)))))
 
 -- ---- 27: the host's word that the signature verified
 abbrev pub onWord : Bool → Admission → Admission
@@ -168,34 +170,34 @@ abbrev pub partAt : List ℕ → Place → List ℕ
 partAt p place.Absent = []
 partAt p (place.Present a e) = between p a e
 
-abbrev pub senderOf : List ℕ → List ℕ
-senderOf p = partAt p (slotsOf kind.RawMessage p .first)
+abbrev pub senderOf : Mode → List ℕ → List ℕ
+senderOf mode p = partAt p (slotsOf mode kind.RawMessage p .first)
 
 -- ---- 21, 22, 23
 abbrev pub onId : ℕ → List ℕ → Bool → MessageId → Admission
 onId flags p word id.MissingFrom = admission.Unfit MissingFrom
 onId flags p word (id.InvalidFrom n) = admission.Unfit (InvalidFrom n)
-onId flags p word id.InvalidSeqno = onPeer (senderOf p) (admission.Unfit InvalidSeqno)
+onId flags p word id.InvalidSeqno = onPeer (senderOf (modeOf flags) p) (admission.Unfit InvalidSeqno)
 onId flags p word (id.Parts a e b f) =
-    onPeer (senderOf p)
-    (onSignature (allowsUnsigned flags) (slotsOf kind.RawMessage p .fourth) (slotsOf kind.RawMessage p .fifth)
-    (onKey p (senderOf p) (slotsOf kind.RawMessage p .fifth) (onWord word (onLimits p (admission.Fit a e b f))))
-    (onLimits p (admission.Fit a e b f)))
+    onPeer (senderOf (modeOf flags) p)
+    (onSignature (allowsUnsigned flags) (slotsOf (modeOf flags) kind.RawMessage p .fourth) (slotsOf (modeOf flags) kind.RawMessage p .fifth)
+    (onKey p (senderOf (modeOf flags) p) (slotsOf (modeOf flags) kind.RawMessage p .fifth) (onWord word (onLimits (modeOf flags) p (admission.Fit a e b f))))
+    (onLimits (modeOf flags) p (admission.Fit a e b f)))
 
 unfoldable pub admissionOf : ℕ → List ℕ → Bool → Admission
-admissionOf flags p word = onId flags p word (idParts p)
+admissionOf flags p word = onId flags p word (idParts (modeOf flags) p)
 
 -- ---- a message has a signature: this alone is told by the mark under which its id is seen
 abbrev pub isThere : Place → Bool
 isThere place.Absent = false
 isThere (place.Present a e) = true
 
-unfoldable pub isSigned : List ℕ → Bool
-isSigned p = isThere (slotsOf kind.RawMessage p .fourth)
+unfoldable pub isSigned : Mode → List ℕ → Bool
+isSigned mode p = isThere (slotsOf mode kind.RawMessage p .fourth)
 
 -- one that has, needs the host's word; where unsigned messages are allowed, one that has not, needs none
 unfoldable pub vouched : ℕ → List ℕ → Bool → Bool
-vouched flags p word = word || (allowsUnsigned flags && not (isSigned p))
+vouched flags p word = word || (allowsUnsigned flags && not (isSigned (modeOf flags) p))
 
 -- ---- a message that may be taken, with its id: what the scope asks of each cached message. The host's word was
 -- given when it came.
@@ -208,8 +210,8 @@ whereRead (count.Refused why) t = false
 whereRead (count.Records n) t = t
 
 unfoldable pub givesId : ℕ → List ℕ → List ℕ → Bool
-givesId flags p i = whereRead (counted kind.RawMessage p) (idGiven p i (admissionOf flags p true))
+givesId flags p i = whereRead (counted (modeOf flags) kind.RawMessage p) (idGiven p i (admissionOf flags p true))
 
 -- and with the places of its topics, as they are kept beside it
 unfoldable pub keptWith : ℕ → List ℕ → List ℕ → List Span → Bool
-keptWith flags p i ts = givesId flags p i && sameSpans (topicPlaces p) ts
+keptWith flags p i ts = givesId flags p i && sameSpans (topicPlaces (modeOf flags) p) ts

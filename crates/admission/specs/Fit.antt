@@ -7,6 +7,8 @@ use mathlib.Core.Bool.{Bool, true}
 use mathlib.Core.List.{List}
 use mathlib.Core.Option.{Option, none, some}
 use lib.ListN.{length}
+use Rattle.basis.specs.declared.Mode.{Mode}
+use Rattle.basis.specs.Dialect.{modeOf}
 use Rattle.peer_id.specs.Multihash.{Hash, identity, sha-256, IsPeerId}
 use Rattle.key.specs.declared.KeyType.{KeyType}
 use Rattle.key.specs.Key.{IsKey}
@@ -42,25 +44,25 @@ pub record Signed (s : Place) : Type 0 where
   pub size : next - start ≡ 64
 
 -- 1 to 4 topics of at most 1,024 bytes, and at most 4,096 bytes in all
-pub record Limits (p : List ℕ) : Type 0 where
-  pub some : 1 ≤ length (topicsOf p)
-  pub few : length (topicsOf p) ≤ 4
-  pub short : firstLong (topicsOf p) ≡ 0
+pub record Limits (mode : Mode) (p : List ℕ) : Type 0 where
+  pub some : 1 ≤ length (topicsOf mode p)
+  pub few : length (topicsOf mode p) ≤ 4
+  pub short : firstLong (topicsOf mode p) ≡ 0
   pub small : length p ≤ 4096
 
 -- what stands behind a message whose sender is s
 pub data Backed (flags : ℕ) (p : List ℕ) (word : Bool) (s : List ℕ) : Type 0 where
-  signed : Signed (slotsOf kind.RawMessage p .fourth) → KeyOf s (givenAt p (slotsOf kind.RawMessage p .fifth)) → word ≡ true
+  signed : Signed (slotsOf (modeOf flags) kind.RawMessage p .fourth) → KeyOf s (givenAt p (slotsOf (modeOf flags) kind.RawMessage p .fifth)) → word ≡ true
       → Backed flags p word s
   -- neither signature nor key; the host's word does not matter
-  unsigned : allowsUnsigned flags ≡ true → slotsOf kind.RawMessage p .fourth ≡ place.Absent
-      → slotsOf kind.RawMessage p .fifth ≡ place.Absent → Backed flags p word s
+  unsigned : allowsUnsigned flags ≡ true → slotsOf (modeOf flags) kind.RawMessage p .fourth ≡ place.Absent
+      → slotsOf (modeOf flags) kind.RawMessage p .fifth ≡ place.Absent → Backed flags p word s
 
 -- from stands from a to e, seqno from b to f
 pub record IsFit (flags : ℕ) (p : List ℕ) (word : Bool) (a e b f : ℕ) : Type 0 where
-  pub parts : idParts p ≡ id.Parts a e b f
+  pub parts : idParts (modeOf flags) p ≡ id.Parts a e b f
   pub hash : Hash
   pub digest : List ℕ
   pub peer : IsPeerId (between p a e) hash digest
   pub backed : Backed flags p word (between p a e)
-  pub limits : Limits p
+  pub limits : Limits (modeOf flags) p

@@ -7,11 +7,14 @@ ghost use mathlib.Core.Bool.{true, cond};
 ghost use Prim.Native.Nat.{_+_, _≤_, _<_};
 ghost use lib.ListN.{length, set};
 ghost use Rattle.protobuf.specs.Walk.{isBytes};
+ghost use Rattle.basis.specs.Dialect.{modeOf};
 ghost use Rattle.rows.specs.Ids.{sameBytes};
 ghost use Rattle.ids.specs.Ids.{idBytes};
 ghost use Rattle.schema.specs.SlotsLaws.{PlaceInside};
 ghost use Rattle.admission.specs.Flags.{knownFlags, allowsUnsigned};
 ghost use Rattle.admission.specs.Admission.{spansIn, sameSpans, topicsIn, FindsTopics, longAfter, isKey, keyMatches, keyInside, onKey, onSignature, onWord, onLimits, isPeerId, partAt, admissionOf, isSigned, idGiven, keptWith};
+use basis::Mode;
+use basis::mode_of;
 use ids::MessageId;
 use ids::id_of;
 use key::PublicKey;
@@ -42,8 +45,11 @@ pub const MAX_MESSAGE_SIZE: usize = 4096;
 // A setting: messages without a signature and without a key may be taken.
 pub const ALLOW_UNSIGNED: usize = 1;
 
+// A setting: groups are passed over.
+pub const SKIP_GROUPS: usize = 2;
+
 // The highest number that the known flags make.
-pub const MAX_FLAGS: usize = 1;
+pub const MAX_FLAGS: usize = 3;
 
 // Why a message is not taken: 21 to 30 and 34 to 36 of the scope's table, in its order, under verify's names where it has them.
 pub enum Unfit {
@@ -140,14 +146,14 @@ fn note(there: bool, out: &mut [usize], i: usize, v: usize)
 }
 
 // The topics of a message: how many, the first that is too long, and in `starts` and `sizes` where each stands, as many as these have places for.
-pub fn topics_of(part: &[u8], starts: &mut [usize], sizes: &mut [usize]) -> Topics
-    ensures { λ r. ⌜ FindsTopics (now (part .entry)) (now (starts .entry)) (now (sizes .entry)) r (now (starts .exit)) (now (sizes .exit)) ⌝ }
+pub fn topics_of(mode: Mode, part: &[u8], starts: &mut [usize], sizes: &mut [usize]) -> Topics
+    ensures { λ r. ⌜ FindsTopics mode (now (part .entry)) (now (starts .entry)) (now (sizes .entry)) r (now (starts .exit)) (now (sizes .exit)) ⌝ }
 {
     let mut at: usize = 0;
     let mut n: usize = 0;
     let mut long: usize = 0;
     while at < part.len() {
-        let step = read_field(part, at);
+        let step = read_field(mode, part, at);
         match step {
             Step::End => {
                 return Topics { count: n, long };
@@ -170,9 +176,9 @@ pub fn topics_of(part: &[u8], starts: &mut [usize], sizes: &mut [usize]) -> Topi
 }
 
 // 28, 29, 30.
-fn limits(part: &[u8], t: Topics, fit: Admission) -> Admission
-    requires { ⌜ t ≡ topicsIn (now part) ⌝ }
-    ensures { λ r. ⌜ r ≡ onLimits (now (part .entry)) fit ⌝ }
+fn limits(mode: Mode, part: &[u8], t: Topics, fit: Admission) -> Admission
+    requires { ⌜ t ≡ topicsIn mode (now part) ⌝ }
+    ensures { λ r. ⌜ r ≡ onLimits mode (now (part .entry)) fit ⌝ }
 {
     if t.count == 0 {
         return Admission::Unfit(Unfit::TopicCount(t.count));
@@ -225,18 +231,19 @@ pub fn key_inside(sender: &[u8]) -> bool
 }
 
 // 27, and then the limits.
-fn worded(part: &[u8], t: Topics, verified: bool, fit: Admission) -> Admission
-    requires { ⌜ t ≡ topicsIn (now part) ⌝ }
-    ensures { λ r. ⌜ r ≡ onWord verified (onLimits (now (part .entry)) fit) ⌝ }
+fn worded(mode: Mode, part: &[u8], t: Topics, verified: bool, fit: Admission) -> Admission
+    requires { ⌜ t ≡ topicsIn mode (now part) ⌝ }
+    ensures { λ r. ⌜ r ≡ onWord verified (onLimits mode (now (part .entry)) fit) ⌝ }
 {
     if verified {
-        return limits(part, t, fit);
+        return limits(mode, part, t, fit);
     }
     Admission::Unfit(Unfit::SignatureInvalid)
 }
 
 // 35, 36, and then the host's word.
 fn keyed(
+    mode: Mode,
     part: &[u8],
     t: Topics,
     sender: &[u8],
@@ -244,19 +251,19 @@ fn keyed(
     verified: bool,
     fit: Admission,
 ) -> Admission
-    requires { ⌜ t ≡ topicsIn (now part) ⌝ }
+    requires { ⌜ t ≡ topicsIn mode (now part) ⌝ }
     requires { ⌜ PlaceInside (now part) key ⌝ }
-    ensures { λ r. ⌜ r ≡ onKey (now (part .entry)) (now (sender .entry)) key (onWord verified (onLimits (now (part .entry)) fit)) ⌝ }
+    ensures { λ r. ⌜ r ≡ onKey (now (part .entry)) (now (sender .entry)) key (onWord verified (onLimits mode (now (part .entry)) fit)) ⌝ }
 {
     let Place::Present { start: a, end: e } = key else {
         if key_inside(sender) {
-            return worded(part, t, verified, fit);
+            return worded(mode, part, t, verified, fit);
         }
         return Admission::Unfit(Unfit::KeyPeerIdMismatch);
     };
     if is_key(&part[a..e]) {
         if key_matches(sender, &part[a..e]) {
-            return worded(part, t, verified, fit);
+            return worded(mode, part, t, verified, fit);
         }
         return Admission::Unfit(Unfit::KeyPeerIdMismatch);
     }
@@ -265,6 +272,7 @@ fn keyed(
 
 // 24 or 25, 26, and then the key; where unsigned messages are allowed, the limits alone of one with neither signature nor key.
 fn signed(
+    mode: Mode,
     part: &[u8],
     t: Topics,
     sender: &[u8],
@@ -274,14 +282,14 @@ fn signed(
     unsigned: bool,
     fit: Admission,
 ) -> Admission
-    requires { ⌜ t ≡ topicsIn (now part) ⌝ }
+    requires { ⌜ t ≡ topicsIn mode (now part) ⌝ }
     requires { ⌜ PlaceInside (now part) key ⌝ }
-    ensures { λ r. ⌜ r ≡ onSignature unsigned signature key (onKey (now (part .entry)) (now (sender .entry)) key (onWord verified (onLimits (now (part .entry)) fit))) (onLimits (now (part .entry)) fit) ⌝ }
+    ensures { λ r. ⌜ r ≡ onSignature unsigned signature key (onKey (now (part .entry)) (now (sender .entry)) key (onWord verified (onLimits mode (now (part .entry)) fit))) (onLimits mode (now (part .entry)) fit) ⌝ }
 {
     let Place::Present { start: a, end: e } = signature else {
         if let Place::Absent = key {
             if unsigned {
-                return limits(part, t, fit);
+                return limits(mode, part, t, fit);
             }
             return Admission::Unfit(Unfit::MissingSignature);
         }
@@ -291,7 +299,7 @@ fn signed(
     if len != SIGNATURE_LEN {
         return Admission::Unfit(Unfit::InvalidSignatureLength(len));
     }
-    keyed(part, t, sender, key, verified, fit)
+    keyed(mode, part, t, sender, key, verified, fit)
 }
 
 // Whether some bytes are a peer id.
@@ -319,10 +327,11 @@ fn known(part: &[u8], from: Place) -> bool
 
 // Whether a message with these topics may be taken, given the host's word on its signature: 21 to 30, 34, 35, 36, in the table's order.
 fn weigh(part: &[u8], t: Topics, verified: bool, flags: usize) -> Admission
-    requires { ⌜ t ≡ topicsIn (now part) ⌝ }
+    requires { ⌜ t ≡ topicsIn (modeOf flags) (now part) ⌝ }
     ensures { λ r. ⌜ r ≡ admissionOf flags (now (part .entry)) verified ⌝ }
 {
-    let slots = slots_of(part, Kind::RawMessage);
+    let mode = mode_of(flags as u64);
+    let slots = slots_of(mode, part, Kind::RawMessage);
     let from = slots.first;
     let seqno = slots.third;
     let signature = slots.fourth;
@@ -351,6 +360,7 @@ fn weigh(part: &[u8], t: Topics, verified: bool, flags: usize) -> Admission
             };
             if known(part, from) {
                 return signed(
+                    mode,
                     part,
                     t,
                     &part[from_start..from_end],
@@ -372,15 +382,15 @@ pub fn admit(part: &[u8], verified: bool, flags: usize) -> Admission
 {
     let mut starts = [0usize; MAX_TOPICS];
     let mut sizes = [0usize; MAX_TOPICS];
-    let t = topics_of(part, &mut starts, &mut sizes);
+    let t = topics_of(mode_of(flags as u64), part, &mut starts, &mut sizes);
     weigh(part, t, verified, flags)
 }
 
 // Whether a message has a signature.
-pub fn is_signed(part: &[u8]) -> bool
-    ensures { λ r. ⌜ r ≡ isSigned (now (part .entry)) ⌝ }
+pub fn is_signed(mode: Mode, part: &[u8]) -> bool
+    ensures { λ r. ⌜ r ≡ isSigned mode (now (part .entry)) ⌝ }
 {
-    let slots = slots_of(part, Kind::RawMessage);
+    let slots = slots_of(mode, part, Kind::RawMessage);
     let place = slots.fourth;
     if let Place::Absent = place {
         return false;
@@ -429,7 +439,7 @@ fn same_spans(
 
 // Whether a message with these topics may be taken and its id is this one.
 fn names(part: &[u8], t: Topics, id: &[u8], flags: usize) -> bool
-    requires { ⌜ t ≡ topicsIn (now part) ⌝ }
+    requires { ⌜ t ≡ topicsIn (modeOf flags) (now part) ⌝ }
     ensures { λ r. ⌜ r ≡ idGiven (now (part .entry)) (now (id .entry)) (admissionOf flags (now (part .entry)) true) ⌝ }
 {
     let r = weigh(part, t, true, flags);
@@ -456,13 +466,14 @@ pub fn kept_with(
 ) -> bool
     ensures { λ r. ⌜ r ≡ keptWith flags (now (part .entry)) (now (id .entry)) (spansIn (now («kept_starts» .entry)) (now («kept_sizes» .entry)) n) ⌝ }
 {
-    let c = count(part, Kind::RawMessage);
+    let mode = mode_of(flags as u64);
+    let c = count(mode, part, Kind::RawMessage);
     match c {
         Counted::Refused(_) => false,
         Counted::Records(_) => {
             let mut starts = [0usize; MAX_TOPICS];
             let mut sizes = [0usize; MAX_TOPICS];
-            let t = topics_of(part, &mut starts, &mut sizes);
+            let t = topics_of(mode, part, &mut starts, &mut sizes);
             if t.count != n {
                 return false;
             }

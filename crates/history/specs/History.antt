@@ -7,8 +7,9 @@ use mathlib.Core.Bool.{Bool, true, false, cond}
 use mathlib.Core.List.{List, [], _∷_, _++_}
 use mathlib.Core.Option.{Option, none, some}
 use lib.ListN.{length, getD, take}
+use Rattle.basis.specs.declared.Mode.{Mode}
 use Rattle.basis.specs.declared.Edition.{Edition}
-use Rattle.basis.specs.Dialect.{spoken}
+use Rattle.basis.specs.Dialect.{modeOf, spoken}
 use Rattle.basis.specs.Bytes.{Bytes}
 use Rattle.rows.specs.Ids.{sameBytes}
 use Rattle.protobuf.specs.declared.Checked.{Checked}
@@ -172,10 +173,10 @@ servedMessages (served.Refused why) = 0
 servedMessages (served.Room n) = 0
 
 -- ---- the message at an index of a body, byte for byte
-pub record Placed (s : List ℕ) (i : ℕ) (m : List ℕ) : Type 0 where
+pub record Placed (mode : Mode) (s : List ℕ) (i : ℕ) (m : List ℕ) : Type 0 where
   pub start : ℕ
   pub next : ℕ
-  pub found : messageAt s i ≡ At start next
+  pub found : messageAt mode s i ≡ At start next
   pub bytes : between s start next ≡ m
 
 -- ---- what comes in, by the call and the flags alone and whatever the node does with it: an admit brings the message
@@ -191,7 +192,7 @@ whereAccepted (checked.Refused why) m = none
 
 unfoldable pub brought : ℕ → Call → Option (List ℕ)
 brought flags (admit ed body i word at) =
-    whereAccepted (acceptOf (spoken ed) body) (standing flags word body (messageAt body i))
+    whereAccepted (acceptOf (spoken (modeOf flags) ed) body) (standing flags word body (messageAt (modeOf flags) body i))
 brought flags (heartbeat at) = none
 brought flags (advertise topic windows out) = none
 brought flags (ask ed body out) = none

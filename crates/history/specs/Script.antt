@@ -5,7 +5,7 @@ use mathlib.Core.Path.{_≡_}
 use mathlib.Core.Bool.{true, cond}
 use mathlib.Core.List.{List, [], _∷_}
 use Rattle.basis.specs.declared.Edition.{Edition}
-use Rattle.basis.specs.Dialect.{spoken}
+use Rattle.basis.specs.Dialect.{modeOf, spoken}
 use Rattle.rows.specs.Ids.{sameBytes}
 use Rattle.protobuf.specs.declared.Checked.the-variants as checked
 use Rattle.schema.specs.Accept.{acceptOf}
@@ -15,8 +15,8 @@ use Rattle.history.specs.History.{Call, admit, heartbeat, ask, Placed}
 
 -- a body that is taken in an edition, and whose first message is m, which gives that id under some flags
 pub record Carries (flags : ℕ) (ed : Edition) (body m id : List ℕ) : Type 0 where
-  pub accepted : acceptOf (spoken ed) body ≡ checked.Fine
-  pub placed : Placed body 0 m
+  pub accepted : acceptOf (spoken (modeOf flags) ed) body ≡ checked.Fine
+  pub placed : Placed (modeOf flags) body 0 m
   pub own : givesId flags m id ≡ true
 
 -- ---- calls

@@ -8,7 +8,7 @@ use lib.ListN.{length, drop, getD, replicate}
 use lib.Seq.{sets}
 use lib.Dec.{leb, ltb, eqb}
 use Rattle.basis.specs.declared.Edition.{Edition}
-use Rattle.basis.specs.Dialect.{spoken}
+use Rattle.basis.specs.Dialect.{modeOf, spoken}
 use Rattle.rows.specs.declared.Ring.{Ring}
 use Rattle.rows.specs.Rows.{placeOf, rowsIn}
 use Rattle.rows.specs.Ids.{indexOf}
@@ -193,7 +193,7 @@ planAt c body (at.At a e) = planFit c (between body a e) (admissionOf (c .flags)
 -- 10, 1 to 7, 11
 abbrev pub planBody : MessageCache → List ℕ → ℕ → Checked → Plan
 planBody c body i (checked.Refused why) = no (put.Refused why)
-planBody c body i checked.Fine = planAt c body (messageAt body i)
+planBody c body i checked.Fine = planAt c body (messageAt (modeOf (c .flags)) body i)
 
 -- 41, 42
 abbrev pub planLent : Lent → Plan → Plan
@@ -202,7 +202,7 @@ planLent lent.BadStore r = no put.BadStore
 planLent lent.Malformed r = no put.Malformed
 
 unfoldable pub planned : MessageCache → List ℕ → Edition → List ℕ → ℕ → Plan
-planned c st e body i = planLent (lentOf c st) (planBody c body i (acceptOf (spoken e) body))
+planned c st e body i = planLent (lentOf c st) (planBody c body i (acceptOf (spoken (modeOf (c .flags)) e) body))
 
 -- ---- shift
 unfoldable pub shiftCache : MessageCache → List ℕ → MessageCache

@@ -4,6 +4,7 @@ use Prim.Native.Nat.{ℕ, suc}
 use mathlib.Core.List.{List, [], _∷_, _++_, map}
 use mathlib.Core.Bool.{Bool, cond, _&&_}
 use lib.Dec.{ltb}
+use Rattle.basis.specs.declared.Mode.{Mode}
 use Rattle.rows.specs.Rows.{newest}
 use Rattle.rows.specs.Ids.{sameBytes, precedesBytes, among}
 use Rattle.admission.specs.Admission.{topicsOf}
@@ -16,8 +17,8 @@ pub record Cached : Type 0 where
   pub window : ℕ
 
 -- its topics are the message's own
-abbrev pub topics : Cached → List (List ℕ)
-topics m = topicsOf (m .message)
+abbrev pub topics : Mode → Cached → List (List ℕ)
+topics mode m = topicsOf mode (m .message)
 
 abbrev pub idsOf : List Cached → List (List ℕ)
 idsOf ms = map (λ (m : Cached). m .id) ms
@@ -44,10 +45,10 @@ get id [] = []
 get id (m ∷ ms) = cond (sameBytes (m .id) id) (m .message) (get id ms)
 
 -- `gossip_ids`: those of the newest windows asked for that carry the topic
-unfoldable pub carrying : List ℕ → ℕ → List Cached → List Cached
-carrying topic windows [] = []
-carrying topic windows (m ∷ ms) =
-    cond (ltb (m .window) windows && among topic (topics m)) (m ∷ carrying topic windows ms) (carrying topic windows ms)
+unfoldable pub carrying : Mode → List ℕ → ℕ → List Cached → List Cached
+carrying mode topic windows [] = []
+carrying mode topic windows (m ∷ ms) =
+    cond (ltb (m .window) windows && among topic (topics mode m)) (m ∷ carrying mode topic windows ms) (carrying mode topic windows ms)
 
 -- their ids in byte order, each once
 unfoldable pub enterId : List ℕ → List (List ℕ) → List (List ℕ)
@@ -58,8 +59,8 @@ unfoldable pub inOrder : List (List ℕ) → List (List ℕ)
 inOrder [] = []
 inOrder (i ∷ is) = enterId i (inOrder is)
 
-unfoldable pub gossipIds : List ℕ → ℕ → List Cached → List (List ℕ)
-gossipIds topic windows ms = inOrder (idsOf (carrying topic windows ms))
+unfoldable pub gossipIds : Mode → List ℕ → ℕ → List Cached → List (List ℕ)
+gossipIds mode topic windows ms = inOrder (idsOf (carrying mode topic windows ms))
 
 -- ---- why an id is not among them
 -- what is said of a message, by whether it carries the topic and its window's age: the topic is named before the window
@@ -68,7 +69,7 @@ offerFor carried age windows =
     cond carried (cond (ltb age windows) offer.Listed (offer.OlderWindow age)) offer.WithoutTopic
 
 -- of the message with the id
-unfoldable pub offerOf : List ℕ → List ℕ → ℕ → List Cached → Offer
-offerOf id topic windows [] = offer.NotCached
-offerOf id topic windows (m ∷ ms) =
-    cond (sameBytes (m .id) id) (offerFor (among topic (topics m)) (m .window) windows) (offerOf id topic windows ms)
+unfoldable pub offerOf : Mode → List ℕ → List ℕ → ℕ → List Cached → Offer
+offerOf mode id topic windows [] = offer.NotCached
+offerOf mode id topic windows (m ∷ ms) =
+    cond (sameBytes (m .id) id) (offerFor (among topic (topics mode m)) (m .window) windows) (offerOf mode id topic windows ms)

@@ -8,6 +8,8 @@ use mathlib.Core.Bool.{Bool, true, cond, _&&_}
 use lib.ListN.{length, take, drop, getD, set, replicate}
 use lib.Seq.{sets}
 use lib.Dec.{leb, ltb, eqb}
+use Rattle.basis.specs.declared.Mode.{Mode}
+use Rattle.basis.specs.Dialect.{modeOf}
 use Rattle.rows.specs.declared.Ring.{Ring}
 use Rattle.rows.specs.Rows.{placeOf, rowsIn}
 use Rattle.rows.specs.Ids.{precedesBytes, among, distinct}
@@ -65,26 +67,26 @@ unfoldable pub topicsAt : Table → ℕ → List Span
 topicsAt t p = spansIn (drop (p * maxTopics) (t .starts)) (drop (p * maxTopics) (t .sizes)) (getD (t .counts) p 0)
 
 -- what is kept of a message: where its topics stand, at most four
-unfoldable pub keptPlaces : List ℕ → List Span
-keptPlaces m = take maxTopics (topicPlaces m)
+unfoldable pub keptPlaces : Mode → List ℕ → List Span
+keptPlaces mode m = take maxTopics (topicPlaces mode m)
 
 -- n places of a message were found, as numbers: what is to be kept of it
-pub record Found (m : List ℕ) (n : ℕ) (a b : List ℕ) : Type 0 where
-  pub counts : n ≡ length (keptPlaces m)
-  pub starts : take n a ≡ startsOf (keptPlaces m)
-  pub sizes : take n b ≡ sizesOf (keptPlaces m)
+pub record Found (mode : Mode) (m : List ℕ) (n : ℕ) (a b : List ℕ) : Type 0 where
+  pub counts : n ≡ length (keptPlaces mode m)
+  pub starts : take n a ≡ startsOf (keptPlaces mode m)
+  pub sizes : take n b ≡ sizesOf (keptPlaces mode m)
   pub starts-room : n ≤ length a
   pub sizes-room : n ≤ length b
   pub starts-small : (i : ℕ) → i < n → getD a i 0 < 65536
   pub sizes-small : (i : ℕ) → i < n → getD b i 0 < 65536
 
 -- the table with that in place p; slots past the count stay as they were
-unfoldable pub noted : List ℕ → ℕ → Table → Table
-noted m p t =
+unfoldable pub noted : Mode → List ℕ → ℕ → Table → Table
+noted mode m p t =
     record {
-      counts = set (t .counts) p (length (keptPlaces m));
-      starts = sets (t .starts) (p * maxTopics) (startsOf (keptPlaces m));
-      sizes = sets (t .sizes) (p * maxTopics) (sizesOf (keptPlaces m));
+      counts = set (t .counts) p (length (keptPlaces mode m));
+      starts = sets (t .starts) (p * maxTopics) (startsOf (keptPlaces mode m));
+      sizes = sets (t .sizes) (p * maxTopics) (sizesOf (keptPlaces mode m));
     }
 
 unfoldable pub cachedAt : MessageCache → List ℕ → ℕ → Cached
@@ -223,7 +225,7 @@ dropped k c =
 unfoldable pub appended : List ℕ → List ℕ → MessageCache → MessageCache
 appended m id c =
     let p = placeOf (ringOf c) (c .count) in
-    let t = noted m p (tableOf c) in
+    let t = noted (modeOf (c .flags)) m p (tableOf c) in
     record {
       «history_len» = c .«history_len»;
       «max_messages» = c .«max_messages»;

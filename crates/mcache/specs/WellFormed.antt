@@ -5,6 +5,7 @@ use mathlib.Core.Path.{_≡_}
 use mathlib.Core.Bool.{true}
 use mathlib.Core.List.{List}
 use lib.ListN.{length, getD, replicate}
+use Rattle.basis.specs.Dialect.{modeOf}
 use Rattle.basis.specs.declared.Edition.{Edition}
 use Rattle.rows.specs.Rows.{placeOf}
 use Rattle.rows.specs.Store.{idAt}
@@ -69,7 +70,7 @@ pub record WellFormed (c : MessageCache) (st : List ℕ) : Type 0 where
   -- each cached message may be taken under the flags and gives its stored id
   pub gives : (i : ℕ) → i < c .count → Gives (c .flags) (messageIn (c .len) st (rowOf c i)) (idOf c i)
   -- and its topics stand where the row has them: as many, each with this start and this length
-  pub topics : (i : ℕ) → i < c .count → topicsAt (tableOf c) (rowOf c i) ≡ topicPlaces (messageIn (c .len) st (rowOf c i))
+  pub topics : (i : ℕ) → i < c .count → topicsAt (tableOf c) (rowOf c i) ≡ topicPlaces (modeOf (c .flags)) (messageIn (c .len) st (rowOf c i))
 
 -- ---- the states that the calls reach
 -- a new cache whose first message gets the arrival number `next`; `start` gives the number 0

@@ -8,6 +8,7 @@ ghost use mathlib.Core.List.{map, _++_};
 ghost use Prim.Native.Nat.{ℕ, _+_, _-_, _*_, _≤_, _<_};
 ghost use lib.ListN.{length, drop, take, getD, replicate};
 ghost use lib.Seq.{sets};
+ghost use Rattle.basis.specs.Dialect.{modeOf};
 ghost use Rattle.rows.specs.Rows.{placeOf};
 ghost use Rattle.rows.specs.Ids.{among};
 ghost use Rattle.rows.specs.Store.{InStore, inUse, idAt};
@@ -32,6 +33,7 @@ use basis::Edition;
 use basis::Written;
 use basis::has_room;
 use basis::least;
+use basis::mode_of;
 use ids::MessageAt;
 use ids::message_at;
 use protobuf::Checked;
@@ -657,7 +659,7 @@ impl MessageCache {
         requires { ⌜ Placed self (now store) ⌝ }
         requires { ⌜ self .count < self .«max_messages» ⌝ }
         requires { ⌜ (length (now part) ≤ messageSize) × (length (now id) ≤ messageIdSize) ⌝ }
-        requires { ⌜ Found (now part) n (now from) (now long) ⌝ }
+        requires { ⌜ Found (modeOf (self .flags)) (now part) n (now from) (now long) ⌝ }
         ensures { λ r. ⌜ r ≡ appended (now (part .entry)) (now (id .entry)) self ⌝ }
         ensures { λ _. ⌜ now (store .exit) ≡ sets (now (store .entry)) (placeOf (ringOf self) (self .count) * messageSize) (now (part .entry)) ⌝ }
     {
@@ -695,7 +697,7 @@ impl MessageCache {
     ) -> Self
         requires { ⌜ Placed self (now store) ⌝ }
         requires { ⌜ (length (now part) ≤ messageSize) × (length (now id) ≤ messageIdSize) ⌝ }
-        requires { ⌜ Found (now part) n (now from) (now long) ⌝ }
+        requires { ⌜ Found (modeOf (self .flags)) (now part) n (now from) (now long) ⌝ }
         ensures { λ r. ⌜ r ≡ entered (now (part .entry)) (now (id .entry)) self ⌝ }
         ensures { λ _. ⌜ now (store .exit) ≡ enteredStore self (now (store .entry)) (now (part .entry)) ⌝ }
     {
@@ -735,7 +737,7 @@ impl MessageCache {
             }
             let mut from = [0usize; MAX_TOPICS];
             let mut long = [0usize; MAX_TOPICS];
-            let t = topics_of(part, &mut from, &mut long);
+            let t = topics_of(mode_of(self.flags as u64), part, &mut from, &mut long);
             let n = least(t.count, MAX_TOPICS);
             let cache = self.enter(store, part, id, n, &from, &long);
             return PutDone {
@@ -790,14 +792,15 @@ impl MessageCache {
                 cache: self,
             },
             Lent::Fine => {
-                let c = accept(Dialect { edition }, body);
+                let mode = mode_of(self.flags as u64);
+                let c = accept(Dialect { edition, mode }, body);
                 match c {
                     Checked::Refused(why) => PutDone {
                         answer: Put::Refused(why),
                         cache: self,
                     },
                     Checked::Fine => {
-                        let m = message_at(body, index);
+                        let m = message_at(mode, body, index);
                         match m {
                             MessageAt::Count(n) => PutDone {
                                 answer: Put::NoMessage(n),

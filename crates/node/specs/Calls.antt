@@ -6,9 +6,10 @@ use mathlib.Core.Bool.{Bool, true, false, cond, _&&_, _||_}
 use lib.ListN.{length}
 use lib.Seq.{sets}
 use lib.Dec.{ltb, eqb}
+use Rattle.basis.specs.declared.Mode.{Mode}
 use Rattle.basis.specs.declared.Edition.{Edition}
 use Rattle.basis.specs.declared.Edition.the-variants.{V12}
-use Rattle.basis.specs.Dialect.{spoken}
+use Rattle.basis.specs.Dialect.{modeOf, spoken}
 use Rattle.basis.specs.declared.Written.{Written}
 use Rattle.basis.specs.declared.Written.the-variants as done
 use Rattle.basis.specs.Writing.{answer, written}
@@ -134,13 +135,13 @@ planAt n at word body (found.At a e) = planFit n at (between body a e) (admissio
 -- 10, 1 to 7, 11
 abbrev pub planBody : Node → ℕ → Bool → List ℕ → ℕ → Checked → Plan
 planBody n at word body i (checked.Refused why) = no (admit.Refused why)
-planBody n at word body i checked.Fine = planAt n at word body (messageAt body i)
+planBody n at word body i checked.Fine = planAt n at word body (messageAt (modeOf (n .cache .flags)) body i)
 
 -- 40, 41, 42
 unfoldable pub planned : Node → List ℕ → List ℕ → Edition → List ℕ → ℕ → Bool → ℕ → Plan
 planned n ss cs e body i word at =
     onLent (λ (why : Fault). no (admit.Faulty why)) (lentOf n ss cs)
-    (planBody n at word body i (acceptOf (spoken e) body))
+    (planBody n at word body i (acceptOf (spoken (modeOf (n .cache .flags)) e) body))
 
 -- the ids that are seen after the clean-up
 unfoldable pub swept : Node → ℕ → SeenCache
@@ -152,23 +153,23 @@ heldAt n ss at form = heldIn (n .«max_seen») (swept n at) ss form
 
 abbrev pub admitAnswer : Node → List ℕ → ℕ → Plan → Admit
 admitAnswer n ss at (no r) = r
-admitAnswer n ss at (taken m id) = cond (heldAt n ss at (formOf m id)) admit.Duplicate admit.New
+admitAnswer n ss at (taken m id) = cond (heldAt n ss at (formOf (modeOf (n .cache .flags)) m id)) admit.Duplicate admit.New
 
 abbrev pub admitNode : Node → List ℕ → ℕ → Plan → Node
 admitNode n ss at (no r) = n
 admitNode n ss at (taken m id) =
-    cond (heldAt n ss at (formOf m id)) (laterNode at (swept n at) (n .cache) n)
-    (laterNode at (entered (n .«max_seen») (n .«max_seen») (length (formOf m id)) (until at (n .ttl)) (swept n at))
+    cond (heldAt n ss at (formOf (modeOf (n .cache .flags)) m id)) (laterNode at (swept n at) (n .cache) n)
+    (laterNode at (entered (n .«max_seen») (n .«max_seen») (length (formOf (modeOf (n .cache .flags)) m id)) (until at (n .ttl)) (swept n at))
     (keptUnder m id (n .cache)) n)
 
 abbrev pub admitSeen : Node → List ℕ → ℕ → Plan → List ℕ
 admitSeen n ss at (no r) = ss
 admitSeen n ss at (taken m id) =
-    cond (heldAt n ss at (formOf m id)) ss (enteredStore (n .«max_seen») (n .«max_seen») (swept n at) ss (formOf m id))
+    cond (heldAt n ss at (formOf (modeOf (n .cache .flags)) m id)) ss (enteredStore (n .«max_seen») (n .«max_seen») (swept n at) ss (formOf (modeOf (n .cache .flags)) m id))
 
 abbrev pub admitCache : Node → List ℕ → List ℕ → ℕ → Plan → List ℕ
 admitCache n ss cs at (no r) = cs
-admitCache n ss cs at (taken m id) = cond (heldAt n ss at (formOf m id)) cs (storedUnder (n .cache) cs m id)
+admitCache n ss cs at (taken m id) = cond (heldAt n ss at (formOf (modeOf (n .cache .flags)) m id)) cs (storedUnder (n .cache) cs m id)
 
 -- ---- heartbeat: 40, 41, 42, 31
 unfoldable pub beatAnswer : Node → List ℕ → List ℕ → ℕ → Beat
@@ -220,8 +221,8 @@ explainAnswer n ss cs id topic windows =
 
 -- ---- ask: 40, 41, 42, 10, 1 to 7, 11, 12
 -- the ids in the IHAVEs of a body, each at its first mention
-unfoldable pub offered : List ℕ → List (List ℕ)
-offered body = once (atPath (3 ∷ 1 ∷ 2 ∷ []) body)
+unfoldable pub offered : Mode → List ℕ → List (List ℕ)
+offered mode body = once (atPath mode (3 ∷ 1 ∷ 2 ∷ []) body)
 
 -- one counts as held among the ids seen: in the form of a signed message; where unsigned ones are allowed, in either
 unfoldable pub knownIn : ℕ → List (List ℕ) → List ℕ → Bool
@@ -236,7 +237,7 @@ unfoldable pub unseenOf : Node → List ℕ → List (List ℕ) → List (List �
 unseenOf n ss is = unseenFrom (n .cache .flags) (idsIn idSize (seenRing n) (n .seen .len) ss) is
 
 unfoldable pub askBytes : Node → List ℕ → List ℕ → List ℕ
-askBytes n ss body = rpcBytes (requestFor (unseenOf n ss (offered body)))
+askBytes n ss body = rpcBytes (requestFor (unseenOf n ss (offered (modeOf (n .cache .flags)) body)))
 
 abbrev pub asked : Written → Ask
 asked (done.Bytes n) = ask.Bytes n
@@ -248,7 +249,7 @@ askOn r (checked.Refused why) = ask.Refused why
 
 unfoldable pub askAnswer : Node → List ℕ → List ℕ → Edition → List ℕ → List ℕ → Ask
 askAnswer n ss cs e body out =
-    onLent ask.Faulty (lentOf n ss cs) (askOn (asked (answer (askBytes n ss body) out)) (acceptOf (spoken e) body))
+    onLent ask.Faulty (lentOf n ss cs) (askOn (asked (answer (askBytes n ss body) out)) (acceptOf (spoken (modeOf (n .cache .flags)) e) body))
 
 abbrev pub whenTaken : {A : Type 0} → Checked → A → A → A
 whenTaken checked.Fine new old = new
@@ -256,20 +257,20 @@ whenTaken (checked.Refused why) new old = old
 
 unfoldable pub askLeft : Node → List ℕ → List ℕ → Edition → List ℕ → List ℕ → List ℕ
 askLeft n ss cs e body out =
-    whenFine (lentOf n ss cs) (whenTaken (acceptOf (spoken e) body) (written (askBytes n ss body) out) out) out
+    whenFine (lentOf n ss cs) (whenTaken (acceptOf (spoken (modeOf (n .cache .flags)) e) body) (written (askBytes n ss body) out) out) out
 
 -- ---- serve: 40, 41, 42; 10, 1 to 7, 11 of the body that asks; the same of the second body, which is read in 1.2; 12
 -- the ids in the IWANTs of a body, each at its first mention
-unfoldable pub wanted : List ℕ → List (List ℕ)
-wanted body = once (atPath (3 ∷ 2 ∷ 1 ∷ []) body)
+unfoldable pub wanted : Mode → List ℕ → List (List ℕ)
+wanted mode body = once (atPath mode (3 ∷ 2 ∷ 1 ∷ []) body)
 
 -- the ids in the IDONTWANTs of a body
-unfoldable pub unwantedIn : List ℕ → List (List ℕ)
-unwantedIn body = atPath (3 ∷ 5 ∷ 1 ∷ []) body
+unfoldable pub unwantedIn : Mode → List ℕ → List (List ℕ)
+unwantedIn mode body = atPath mode (3 ∷ 5 ∷ 1 ∷ []) body
 
 -- the ids that a body asks for and a second one does not decline
-unfoldable pub remaining : List ℕ → List ℕ → List (List ℕ)
-remaining body second = without (unwantedIn second) (wanted body)
+unfoldable pub remaining : Mode → List ℕ → List ℕ → List (List ℕ)
+remaining mode body second = without (unwantedIn mode second) (wanted mode body)
 
 -- the places of the messages with these ids; `held` are the ids in use, the oldest first
 unfoldable pub rowsFor : Ring → List (List ℕ) → List (List ℕ) → List ℕ
@@ -310,12 +311,12 @@ unfoldable pub serveAnswer : Node → List ℕ → List ℕ → Edition → List
 serveAnswer n ss cs e body second out =
     onLent serve.Faulty (lentOf n ss cs)
     (serveOn
-    (serveOn (replyTo (cachedOf (n .cache) cs (remaining body second)) out) (acceptOf (spoken V12) second))
-    (acceptOf (spoken e) body))
+    (serveOn (replyTo (cachedOf (n .cache) cs (remaining (modeOf (n .cache .flags)) body second)) out) (acceptOf (spoken (modeOf (n .cache .flags)) V12) second))
+    (acceptOf (spoken (modeOf (n .cache .flags)) e) body))
 
 unfoldable pub serveLeft : Node → List ℕ → List ℕ → Edition → List ℕ → List ℕ → List ℕ → List ℕ
 serveLeft n ss cs e body second out =
     whenFine (lentOf n ss cs)
-    (whenTaken (acceptOf (spoken e) body)
-    (whenTaken (acceptOf (spoken V12) second)
-    (sets out 0 (replyBytes (cachedOf (n .cache) cs (remaining body second)) out)) out) out) out
+    (whenTaken (acceptOf (spoken (modeOf (n .cache .flags)) e) body)
+    (whenTaken (acceptOf (spoken (modeOf (n .cache .flags)) V12) second)
+    (sets out 0 (replyBytes (cachedOf (n .cache) cs (remaining (modeOf (n .cache .flags)) body second)) out)) out) out) out

@@ -6,6 +6,8 @@ use mathlib.Core.List.{List, [], _∷_}
 use mathlib.Core.Option.{Option, none, some}
 use lib.ListN.{length, take, drop}
 use lib.Dec.{eqb}
+use Rattle.basis.specs.declared.Mode.{Mode}
+use Rattle.basis.specs.Dialect.{modeOf}
 use Rattle.protobuf.specs.Encode.{bytesField}
 use Rattle.ids.specs.Ids.{mark}
 use Rattle.admission.specs.Flags.{allowsUnsigned}
@@ -46,12 +48,12 @@ abbrev pub marked : Bool → List ℕ → List ℕ
 marked signed id = mark signed ∷ id
 
 -- the mark comes from the message
-abbrev pub formOf : List ℕ → List ℕ → List ℕ
-formOf message id = marked (isSigned message) id
+abbrev pub formOf : Mode → List ℕ → List ℕ → List ℕ
+formOf mode message id = marked (isSigned mode message) id
 
 -- ---- admit, at a reading, a message with its id: clean up, then insert the marked id
 unfoldable pub isNew : ℕ → List ℕ → List ℕ → Gateway → Bool
-isNew at message id g = not (holds (formOf message id) (live at (g .seen)))
+isNew at message id g = not (holds (formOf (modeOf (g .flags)) message id) (live at (g .seen)))
 
 -- held: duplicate. Else: new, and the message is put under its id. Both set the clock.
 unfoldable pub afterAdmit : ℕ → List ℕ → List ℕ → Gateway → Gateway
@@ -63,7 +65,7 @@ afterAdmit at message id g =
       max-messages = g .max-messages;
       flags = g .flags;
       clock = at;
-      seen = inserted (g .max-seen) (formOf message id) at (g .ttl) (live at (g .seen));
+      seen = inserted (g .max-seen) (formOf (modeOf (g .flags)) message id) at (g .ttl) (live at (g .seen));
       cache = cond (isNew at message id g) (put (g .max-messages) id message (g .cache)) (g .cache);
     }
 
@@ -98,7 +100,7 @@ controlled c = record { subscriptions = []; publish = []; control = some c }
 -- ---- advertise
 -- the ids of the newest windows that carry the topic, sorted
 abbrev pub toldOf : List ℕ → ℕ → Gateway → List (List ℕ)
-toldOf topic windows g = gossipIds topic windows (g .cache)
+toldOf topic windows g = gossipIds (modeOf (g .flags)) topic windows (g .cache)
 
 -- an RPC with one control, one IHAVE, the topic, the sorted ids
 unfoldable pub advertisement : List ℕ → List (List ℕ) → Rpc
@@ -120,7 +122,7 @@ advertiseOf topic windows g = advertisementFor topic (toldOf topic windows g)
 
 -- ---- explain: whether an id is among those, and why not
 abbrev pub explainOf : List ℕ → List ℕ → ℕ → Gateway → Offer
-explainOf id topic windows g = offerOf id topic windows (g .cache)
+explainOf id topic windows g = offerOf (modeOf (g .flags)) id topic windows (g .cache)
 
 -- ---- ask
 -- an id counts as held where the form of a signed message is seen; where unsigned messages are allowed, either form

@@ -6,6 +6,7 @@ use mathlib.Core.List.{List, [], _∷_, _++_}
 use mathlib.Core.Bool.{cond}
 use lib.ListN.{length, getD}
 use lib.Dec.{leb}
+use Rattle.basis.specs.declared.Mode.{Mode}
 use Rattle.rows.specs.Rows.{tab}
 use Rattle.rows.specs.Ids.{among}
 use Rattle.protobuf.specs.Walk.{Fields, end, refused, _then_, fieldsOf, between, isBytes, valueIn}
@@ -37,9 +38,9 @@ inEach g [] = []
 inEach g (s ∷ ss) = g s ++ inEach g ss
 
 -- the fields of a path lead from a body into its submessages: `3, 1, 2` to the ids of the IHAVEs of the controls
-unfoldable pub atPath : List ℕ → List ℕ → List (List ℕ)
-atPath [] s = s ∷ []
-atPath (n ∷ ns) s = inEach (atPath ns) (valuesAlong n s (fieldsOf s))
+unfoldable pub atPath : Mode → List ℕ → List ℕ → List (List ℕ)
+atPath mode [] s = s ∷ []
+atPath mode (n ∷ ns) s = inEach (atPath mode ns) (valuesAlong n s (fieldsOf mode s))
 
 -- ---- each once, at its first mention; `earlier` were mentioned before
 unfoldable pub onceAfter : List (List ℕ) → List (List ℕ) → List (List ℕ)

@@ -10,7 +10,7 @@ ghost use Prim.Native.Nat.{ℕ, _+_, _-_, _*_, _≤_, _<_, min};
 ghost use lib.Dec.{ltb};
 ghost use lib.ListN.{length, drop, take, getD};
 ghost use lib.Seq.{sets};
-ghost use Rattle.basis.specs.Dialect.{spoken};
+ghost use Rattle.basis.specs.Dialect.{modeOf, spoken};
 ghost use Rattle.basis.specs.Writing.{answer, written};
 ghost use Rattle.rows.specs.Rows.{placeOf};
 ghost use Rattle.rows.specs.Ids.{among};
@@ -41,6 +41,8 @@ use admission::allows_unsigned;
 use admission::is_signed;
 use basis::Dialect;
 use basis::Edition;
+use basis::Mode;
+use basis::mode_of;
 use ids::MessageAt;
 use ids::message_at;
 use mcache::MESSAGE_ID_SIZE;
@@ -273,11 +275,11 @@ fn unseen(
 
 // Puts the parts that the IDONTWANTs of a second body do not name into another table; how many those are. Where there is no second body, no table is made
 // for its ids.
-fn not_declined(body: &[u8], from: &[usize], n: usize, unwanted: &[u8], to: &mut [usize]) -> usize
+fn not_declined(mode: Mode, body: &[u8], from: &[usize], n: usize, unwanted: &[u8], to: &mut [usize]) -> usize
     requires { ⌜ Parts (now body) (now from) n ⌝ }
     requires { ⌜ n * 2 ≤ length (now to) ⌝ }
-    requires { ⌜ length (atPath (3 ∷ 5 ∷ 1 ∷ []) (now unwanted)) ≤ 512 ⌝ }
-    ensures { λ r. ⌜ partsIn (now (body .entry)) (now (to .exit)) r ≡ without (unwantedIn (now (unwanted .entry))) (partsIn (now (body .entry)) (now (from .entry)) n) ⌝ }
+    requires { ⌜ length (atPath mode (3 ∷ 5 ∷ 1 ∷ []) (now unwanted)) ≤ 512 ⌝ }
+    ensures { λ r. ⌜ partsIn (now (body .entry)) (now (to .exit)) r ≡ without (unwantedIn mode (now (unwanted .entry))) (partsIn (now (body .entry)) (now (from .entry)) n) ⌝ }
     ensures { λ r. ⌜ Parts (now (body .entry)) (now (to .exit)) r ⌝ }
     ensures { λ r. ⌜ r ≤ n ⌝ }
 {
@@ -286,7 +288,7 @@ fn not_declined(body: &[u8], from: &[usize], n: usize, unwanted: &[u8], to: &mut
     }
     let mut declined = [0usize; 2 * MAX_RECORDS];
     let path = [3u64, 5, 1];
-    let m = parts_at(unwanted, 0, unwanted.len(), &path, &mut declined, 0);
+    let m = parts_at(mode, unwanted, 0, unwanted.len(), &path, &mut declined, 0);
     parts_without(body, from, n, unwanted, &declined, m, to)
 }
 
@@ -413,11 +415,11 @@ fn emit_advertisement(
 
 // Whether a message that may be taken under some flags has a signature; where unsigned messages are not allowed each has one.
 fn has_signature(part: &[u8], flags: usize) -> bool
-    requires { ⌜ (allowsUnsigned flags ≡ false → isSigned (now part) ≡ true) ⌝ }
-    ensures { λ r. ⌜ r ≡ isSigned (now (part .entry)) ⌝ }
+    requires { ⌜ (allowsUnsigned flags ≡ false → isSigned (modeOf flags) (now part) ≡ true) ⌝ }
+    ensures { λ r. ⌜ r ≡ isSigned (modeOf flags) (now (part .entry)) ⌝ }
 {
     if allows_unsigned(flags) {
-        return is_signed(part);
+        return is_signed(mode_of(flags as u64), part);
     }
     true
 }
@@ -637,14 +639,15 @@ impl Node {
                 node: self,
             },
             Lent::Fine => {
-                let c = accept(Dialect { edition }, body);
+                let mode = mode_of(self.cache.flags as u64);
+                let c = accept(Dialect { edition, mode }, body);
                 match c {
                     Checked::Refused(why) => Admitted {
                         answer: Admit::Refused(why),
                         node: self,
                     },
                     Checked::Fine => {
-                        let m = message_at(body, index);
+                        let m = message_at(mode, body, index);
                         match m {
                             MessageAt::Count(n) => Admitted {
                                 answer: Admit::NoMessage(n),
@@ -784,19 +787,20 @@ impl Node {
     // Writes a request for what a body offers and is not seen, where the state and the body were tested.
     fn request_for(self, seen_store: &[u8], body: &[u8], out: &mut [u8]) -> Ask
         requires { ⌜ Sound idSize (seenRing self) (self .seen .len) (now «seen_store») ⌝ }
-        requires { ⌜ (length (now body) ≤ maxRpcSize) × (length (atPath (3 ∷ 1 ∷ 2 ∷ []) (now body)) ≤ 512) ⌝ }
+        requires { ⌜ (length (now body) ≤ maxRpcSize) × (length (atPath (modeOf (self .cache .flags)) (3 ∷ 1 ∷ 2 ∷ []) (now body)) ≤ 512) ⌝ }
         ensures { λ r. ⌜ r ≡ asked (answer (askBytes self (now («seen_store» .entry)) (now (body .entry))) (now (out .entry))) ⌝ }
         ensures { λ _. ⌜ now (out .exit) ≡ written (askBytes self (now («seen_store» .entry)) (now (body .entry))) (now (out .entry)) ⌝ }
     {
         let mut named = [0usize; 2 * MAX_RECORDS];
         let mut first = [0usize; 2 * MAX_RECORDS];
         let path = [3u64, 1, 2];
-        let n = parts_at(body, 0, body.len(), &path, &mut named, 0);
+        let flags = self.cache.flags;
+        let mode = mode_of(flags as u64);
+        let n = parts_at(mode, body, 0, body.len(), &path, &mut named, 0);
         let k = first_mentions(body, &named, n, &mut first);
         let seen = self.seen;
         let ring = seen.ring(self.max_seen);
         let lens = seen.len;
-        let flags = self.cache.flags;
         let m = unseen(&lens, seen_store, ring, flags, body, &first, k, &mut named);
         if m == 0 {
             return Ask::Bytes(0);
@@ -828,7 +832,8 @@ impl Node {
                 node: self,
             },
             Lent::Fine => {
-                let c = accept(Dialect { edition }, body);
+                let mode = mode_of(self.cache.flags as u64);
+                let c = accept(Dialect { edition, mode }, body);
                 match c {
                     Checked::Refused(why) => Asked {
                         answer: Ask::Refused(why),
@@ -847,16 +852,17 @@ impl Node {
     // were tested.
     fn reply_to(self, cache_store: &[u8], body: &[u8], unwanted: &[u8], out: &mut [u8]) -> Serve
         requires { ⌜ Usable (self .cache) (now «cache_store») ⌝ }
-        requires { ⌜ (length (atPath (3 ∷ 2 ∷ 1 ∷ []) (now body)) ≤ 512) × (length (atPath (3 ∷ 5 ∷ 1 ∷ []) (now unwanted)) ≤ 512) ⌝ }
-        ensures { λ r. ⌜ r ≡ replyTo (cachedOf (self .cache) (now («cache_store» .entry)) (remaining (now (body .entry)) (now (unwanted .entry)))) (now (out .entry)) ⌝ }
-        ensures { λ _. ⌜ now (out .exit) ≡ sets (now (out .entry)) 0 (replyBytes (cachedOf (self .cache) (now («cache_store» .entry)) (remaining (now (body .entry)) (now (unwanted .entry)))) (now (out .entry))) ⌝ }
+        requires { ⌜ (length (atPath (modeOf (self .cache .flags)) (3 ∷ 2 ∷ 1 ∷ []) (now body)) ≤ 512) × (length (atPath (modeOf (self .cache .flags)) (3 ∷ 5 ∷ 1 ∷ []) (now unwanted)) ≤ 512) ⌝ }
+        ensures { λ r. ⌜ r ≡ replyTo (cachedOf (self .cache) (now («cache_store» .entry)) (remaining (modeOf (self .cache .flags)) (now (body .entry)) (now (unwanted .entry)))) (now (out .entry)) ⌝ }
+        ensures { λ _. ⌜ now (out .exit) ≡ sets (now (out .entry)) 0 (replyBytes (cachedOf (self .cache) (now («cache_store» .entry)) (remaining (modeOf (self .cache .flags)) (now (body .entry)) (now (unwanted .entry)))) (now (out .entry))) ⌝ }
     {
         let mut named = [0usize; 2 * MAX_RECORDS];
         let mut first = [0usize; 2 * MAX_RECORDS];
         let path = [3u64, 2, 1];
-        let n = parts_at(body, 0, body.len(), &path, &mut named, 0);
+        let mode = mode_of(self.cache.flags as u64);
+        let n = parts_at(mode, body, 0, body.len(), &path, &mut named, 0);
         let k = first_mentions(body, &named, n, &mut first);
-        let r = not_declined(body, &first, k, unwanted, &mut named);
+        let r = not_declined(mode, body, &first, k, unwanted, &mut named);
         let cache = self.cache;
         let ring = cache.ring();
         let lens = cache.len;
@@ -888,16 +894,13 @@ impl Node {
     // Tests the second body, after the first: it is read in 1.2.
     fn serve_taken(self, cache_store: &[u8], body: &[u8], unwanted: &[u8], out: &mut [u8]) -> Serve
         requires { ⌜ Usable (self .cache) (now «cache_store») ⌝ }
-        requires { ⌜ length (atPath (3 ∷ 2 ∷ 1 ∷ []) (now body)) ≤ 512 ⌝ }
-        ensures { λ r. ⌜ r ≡ serveOn (replyTo (cachedOf (self .cache) (now («cache_store» .entry)) (remaining (now (body .entry)) (now (unwanted .entry)))) (now (out .entry))) (acceptOf (spoken Edition.V12) (now (unwanted .entry))) ⌝ }
-        ensures { λ _. ⌜ now (out .exit) ≡ whenTaken (acceptOf (spoken Edition.V12) (now (unwanted .entry))) (sets (now (out .entry)) 0 (replyBytes (cachedOf (self .cache) (now («cache_store» .entry)) (remaining (now (body .entry)) (now (unwanted .entry)))) (now (out .entry)))) (now (out .entry)) ⌝ }
+        requires { ⌜ length (atPath (modeOf (self .cache .flags)) (3 ∷ 2 ∷ 1 ∷ []) (now body)) ≤ 512 ⌝ }
+        ensures { λ r. ⌜ r ≡ serveOn (replyTo (cachedOf (self .cache) (now («cache_store» .entry)) (remaining (modeOf (self .cache .flags)) (now (body .entry)) (now (unwanted .entry)))) (now (out .entry))) (acceptOf (spoken (modeOf (self .cache .flags)) Edition.V12) (now (unwanted .entry))) ⌝ }
+        ensures { λ _. ⌜ now (out .exit) ≡ whenTaken (acceptOf (spoken (modeOf (self .cache .flags)) Edition.V12) (now (unwanted .entry))) (sets (now (out .entry)) 0 (replyBytes (cachedOf (self .cache) (now («cache_store» .entry)) (remaining (modeOf (self .cache .flags)) (now (body .entry)) (now (unwanted .entry)))) (now (out .entry)))) (now (out .entry)) ⌝ }
     {
-        let c = accept(
-            Dialect {
-                edition: Edition::V12,
-            },
-            unwanted,
-        );
+        let edition = Edition::V12;
+        let mode = mode_of(self.cache.flags as u64);
+        let c = accept(Dialect { edition, mode }, unwanted);
         match c {
             Checked::Refused(why) => Serve::Refused(why),
             Checked::Fine => self.reply_to(cache_store, body, unwanted, out),
@@ -924,7 +927,8 @@ impl Node {
                 node: self,
             },
             Lent::Fine => {
-                let tested = accept(Dialect { edition }, body);
+                let mode = mode_of(self.cache.flags as u64);
+                let tested = accept(Dialect { edition, mode }, body);
                 match tested {
                     Checked::Refused(why) => Served {
                         answer: Serve::Refused(why),

@@ -14,6 +14,7 @@ ghost use Rattle.encode.specs.Puts.{Puts, Fits};
 ghost use Rattle.schema.specs.Count.{FieldWithin};
 ghost use Rattle.rows.specs.Ids.{among};
 ghost use Rattle.node.specs.Parts.{partsIn, Parts, atPath, once, without, fitting};
+use basis::Mode;
 use encode::put_head;
 use peer_id::uvarint_len;
 use protobuf::Field;
@@ -54,6 +55,7 @@ pub(crate) fn add_where(
 
 // Puts the parts at a path of the submessage between start and end into a table after its n parts; how many there are then.
 pub(crate) fn parts_at(
+    mode: Mode,
     body: &[u8],
     start: usize,
     end: usize,
@@ -63,8 +65,8 @@ pub(crate) fn parts_at(
 ) -> usize
     requires { ⌜ (start ≤ end) × (end ≤ length (now body)) ⌝ }
     requires { ⌜ Parts (now body) (now table) n ⌝ }
-    requires { ⌜ (n + length (atPath (now path) (between (now body) start end))) * 2 ≤ length (now table) ⌝ }
-    ensures { λ r. ⌜ partsIn (now (body .entry)) (now (table .exit)) r ≡ partsIn (now (body .entry)) (now (table .entry)) n ++ atPath (now (path .entry)) (between (now (body .entry)) start end) ⌝ }
+    requires { ⌜ (n + length (atPath mode (now path) (between (now body) start end))) * 2 ≤ length (now table) ⌝ }
+    ensures { λ r. ⌜ partsIn (now (body .entry)) (now (table .exit)) r ≡ partsIn (now (body .entry)) (now (table .entry)) n ++ atPath mode (now (path .entry)) (between (now (body .entry)) start end) ⌝ }
     ensures { λ r. ⌜ Parts (now (body .entry)) (now (table .exit)) r ⌝ }
 {
     if path.len() == 0 {
@@ -73,7 +75,7 @@ pub(crate) fn parts_at(
     let mut at: usize = 0;
     let mut k = n;
     while at < end - start {
-        let step = read_field(&body[start..end], at);
+        let step = read_field(mode, &body[start..end], at);
         match step {
             Step::End => {
                 return k;
@@ -82,7 +84,7 @@ pub(crate) fn parts_at(
                 return k;
             }
             Step::At(f) => {
-                k = field_at(body, start, end, f, path, table, k);
+                k = field_at(mode, body, start, end, f, path, table, k);
                 at = f.next;
             }
         }
@@ -92,6 +94,7 @@ pub(crate) fn parts_at(
 
 // The same of one field of the submessage.
 fn field_at(
+    mode: Mode,
     body: &[u8],
     start: usize,
     end: usize,
@@ -103,13 +106,13 @@ fn field_at(
     requires { ⌜ (start ≤ end) × (end ≤ length (now body)) × (1 ≤ length (now path)) ⌝ }
     requires { ⌜ FieldWithin (between (now body) start end) f ⌝ }
     requires { ⌜ Parts (now body) (now table) n ⌝ }
-    requires { ⌜ (n + length (cond (isBytes (getD (now path) 0 0) f) (atPath (drop 1 (now path)) (valueIn (between (now body) start end) f)) [])) * 2 ≤ length (now table) ⌝ }
-    ensures { λ r. ⌜ partsIn (now (body .entry)) (now (table .exit)) r ≡ partsIn (now (body .entry)) (now (table .entry)) n ++ cond (isBytes (getD (now (path .entry)) 0 0) f) (atPath (drop 1 (now (path .entry))) (valueIn (between (now (body .entry)) start end) f)) [] ⌝ }
+    requires { ⌜ (n + length (cond (isBytes (getD (now path) 0 0) f) (atPath mode (drop 1 (now path)) (valueIn (between (now body) start end) f)) [])) * 2 ≤ length (now table) ⌝ }
+    ensures { λ r. ⌜ partsIn (now (body .entry)) (now (table .exit)) r ≡ partsIn (now (body .entry)) (now (table .entry)) n ++ cond (isBytes (getD (now (path .entry)) 0 0) f) (atPath mode (drop 1 (now (path .entry))) (valueIn (between (now (body .entry)) start end) f)) [] ⌝ }
     ensures { λ r. ⌜ Parts (now (body .entry)) (now (table .exit)) r ⌝ }
 {
     if f.wire_type == WIRE_LEN {
         if f.field == path[0] {
-            return parts_at(body, start + f.start, start + f.next, &path[1..], table, n);
+            return parts_at(mode, body, start + f.start, start + f.next, &path[1..], table, n);
         }
     }
     n
