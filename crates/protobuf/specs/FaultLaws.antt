@@ -250,26 +250,20 @@ value-fault mode l s at n type to why b t u h =
     (bad-type (drop to s) (numbered mode l s at n type to b t) (u t0 t2 t5 t1)))))))
 
 -- the types that are left
-untaken-above : (mode : Mode) (type : ℕ) → type < 8 → 5 < type → Untaken mode type
-untaken-above mode type b h =
-    either (eqb type 6) (λ t. subst (Untaken mode) (sym (eqb-true type 6 t)) six)
-    (λ t. let z = eqb-false type 6 t in let e : 7 ≡ type = omega arith in subst (Untaken mode) e seven)
-
-untaken-groups : (type : ℕ) → type < 8 → eqb type 3 ≡ false → eqb type 4 ≡ false → eqb type 0 ≡ false
-    → eqb type 2 ≡ false → eqb type 5 ≡ false → eqb type 1 ≡ false → Untaken Groups type
-untaken-groups type b t3 t4 t0 t2 t5 t1 =
-    untaken-above Groups type b
-    (omega (arith, eqb-false type 0 t0, eqb-false type 1 t1, eqb-false type 2 t2, eqb-false type 3 t3,
-    eqb-false type 4 t4, eqb-false type 5 t5))
+untaken-rest : (mode : Mode) (type : ℕ) → type < 8 → eqb type 3 ≡ false → eqb type 4 ≡ false → eqb type 0 ≡ false
+    → eqb type 2 ≡ false → eqb type 5 ≡ false → eqb type 1 ≡ false → Untaken mode type
+untaken-rest mode type b t3 t4 t0 t2 t5 t1 =
+    let low : 2 < type = omega (arith, eqb-false type 0 t0, eqb-false type 1 t1, eqb-false type 2 t2) in
+    let high : 5 < type = omega (arith, eqb-false type 3 t3, eqb-false type 4 t4, eqb-false type 5 t5) in
+    either (eqb type 6) (λ t6. subst (Untaken mode) (sym (eqb-true type 6 t6)) six)
+    (λ t6. let e : 7 ≡ type = omega (arith, eqb-false type 6 t6) in subst (Untaken mode) e seven)
 
 untaken-plain : (type : ℕ) → type < 8 → eqb type 0 ≡ false → eqb type 2 ≡ false → eqb type 5 ≡ false
     → eqb type 1 ≡ false → Untaken Plain type
 untaken-plain type b t0 t2 t5 t1 =
     either (eqb type 3) (λ t3. subst (Untaken Plain) (sym (eqb-true type 3 t3)) start-group)
     (λ t3. either (eqb type 4) (λ t4. subst (Untaken Plain) (sym (eqb-true type 4 t4)) end-group)
-    (λ t4. untaken-above Plain type b
-    (omega (arith, eqb-false type 0 t0, eqb-false type 1 t1, eqb-false type 2 t2, eqb-false type 3 t3,
-    eqb-false type 4 t4, eqb-false type 5 t5))))
+    (λ t4. untaken-rest Plain type b t3 t4 t0 t2 t5 t1))
 
 -- ---- in a group n, of which the fields before `base` are good: its part ends, an end tag has another number, or the
 -- next field has a fault
@@ -369,7 +363,7 @@ module _ (s : List ℕ) (b : Bytes s) (at : ℕ) (later : (l to n : ℕ) (why : 
       let t = tag-spelt s at n type to b q in
       either (eqb type 3)
       (λ t3. opened-fault l n to why (rw (eqb-true type 3 t3) at t) (tag-moves s at n type to q) (simp t3 at h))
-      (λ t3. value-fault Groups l s at n type to why b t (untaken-groups type (t .bits) t3 t4) (simp (t3, t4) at h))
+      (λ t3. value-fault Groups l s at n type to why b t (untaken-rest Groups type (t .bits) t3 t4) (simp (t3, t4) at h))
 
   on-stopped : (l n m type to : ℕ) (why : WireError) (r : Skip) → tagged.Field m type to ≡ readTag s at
       → eqb type 4 ≡ false → r ≡ passed (λ j. skipGroup j s) l s to m type
@@ -599,8 +593,8 @@ fault-refuses s (unclosed {l} {base} {n} v k g) h =
     let to = base + length (tag n 3) in
     group-then s base v k h
     (λ i. let j : drop to s ≡ v ++ [] = i ∙ sym (append-nil v) in
-    let e : length s ≤ to + length v = omega (arith, length-drop (to + length v) s,
-    ap length (drop-front s to v [] j)) in
+    let d = ap length (drop-front s to v [] j) in
+    let e : length s ≤ to + length v = omega (arith, length-drop (to + length v) s) in
     group-over s to n [] g j ∙ group-step l s (to + length v) n
     ∙ ap (inGroup (λ x. skipGroup x s) l s n) (tag-end s (to + length v) e))
 fault-refuses s (crossed {l} {base} {n} {k} v r m g o z) h =
@@ -635,6 +629,8 @@ pub fault-refused : {place : ℕ} {r : List ℕ} {why : WireError} (mode : Mode)
 unfolding readField skipField passed tag
 fault-refused mode s at (of-field f) h = (field-refused mode s at (fault-refuses s f h), fault-spot f)
 fault-refused mode s at (stray {n = n} r k) h =
-    let to = at + length (tag n 4) in
-    (ap (ofTag Groups s) (tag-reads s at n 4 r (k .0) (k .1) (omega arith) h)
-    ∙ skipped-value Groups s n 4 to EndGroup refl, refl)
+    let to = at + length (tag n 4) in (
+      ap (ofTag Groups s) (tag-reads s at n 4 r (k .0) (k .1) (omega arith) h)
+          ∙ skipped-value Groups s n 4 to EndGroup refl,
+      refl,
+    )
