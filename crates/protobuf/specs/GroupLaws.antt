@@ -2,11 +2,11 @@
 use Prim.Native.Nat.{ℕ, zero, suc, _+_, _-_, _*_, _≤_, _<_}
 use mathlib.Core.Path.{_≡_, refl, sym, ap, ap₂, subst, _∙_}
 use mathlib.Core.List.{List, [], _∷_, _++_, append-assoc}
-use mathlib.Core.Bool.{true, false}
+use mathlib.Core.Bool.{false}
 use native.Mathlib.Omega.{arith}
 use lib.ListN.{length, drop, length-append, length-drop}
 use lib.Dec.{eqb}
-use borrow.Author.Tests.{eqb-true, eqb-false, eq-eqb, le-ltb}
+use borrow.Author.Tests.{eqb-true, eq-eqb, le-ltb}
 use Rattle.basis.specs.Cases.{either, clash}
 use Rattle.basis.specs.Bytes.{Bytes}
 use Rattle.peer_id.specs.Uvarint.{uvarint}
@@ -129,7 +129,7 @@ front {l} {n} {type} {m} {at} {to} {x} {e} s low high h g p y c =
     }
 
 -- where what is passed ends
-past-ends : {l n type to e : ℕ} (s : List ℕ) (p : Past l n type s to e) → to < e → e ≤ length s
+pub past-ends : {l n type to e : ℕ} (s : List ℕ) (p : Past l n type s to e) → to < e → e ≤ length s
     → e ≡ to + length (p .bytes-of)
 past-ends {to = to} {e = e} s p low high =
     let h : length s - to ≡ length (p .bytes-of) + (length s - e) =
@@ -249,37 +249,51 @@ tag-on l s at n m type v rest low high bits t4 h p =
     group-step l s at n ∙ ap (inGroup (λ j. skipGroup j s) l s n) (tag-reads s at m type (v ++ rest) low high bits h)
     ∙ simp (t4, p)
 
+-- a group's end tag
+group-ends : (l : ℕ) (s : List ℕ) (at n : ℕ) (rest : List ℕ) → 1 ≤ n → n ≤ 536870911
+    → drop at s ≡ uvarint (n * 8 + 4) ++ rest → skipGroup l s at n ≡ skip.Next (at + length (uvarint (n * 8 + 4)))
+group-ends l s at n rest low high h =
+    group-step l s at n ∙ ap (inGroup (λ j. skipGroup j s) l s n) (tag-reads s at n 4 rest low high (omega arith) h)
+    ∙ simp (eq-eqb n n refl)
+
+-- the fields of a group, up to what follows them
+pub group-over : {l : ℕ} {v : List ℕ} {es : List Entry} (s : List ℕ) (at n : ℕ) (rest : List ℕ) → BodyIn l v es
+    → drop at s ≡ v ++ rest → skipGroup l s at n ≡ skipGroup l s (at + length v) n
+group-over {l} s at n rest none h = ap (λ (k : ℕ). skipGroup l s k n) (omega arith)
+group-over {l} s at n rest (field {n = m} {type = type} {v = v} {rest = more} lo hi w r) h =
+    let t = uvarint (m * 8 + type) in
+    let y = value-type w in
+    let h1 : drop at s ≡ t ++ (v ++ (more ++ rest)) = h ∙ append-assoc t (v ++ more) rest
+    ∙ ap (λ (i : List ℕ). t ++ i) (append-assoc v more rest) in
+    let h2 : drop (at + length t) s ≡ v ++ (more ++ rest) = drop-front s at t (v ++ (more ++ rest)) h1 in
+    let h3 : drop (at + length t + length v) s ≡ more ++ rest = drop-front s (at + length t) v (more ++ rest) h2 in
+    tag-on l s at n m type v (more ++ rest) lo hi (y .2) (y .1) h1
+    (passed-value l s _ m type _ (y .0) (y .1) (value-passes s (at + length t) (more ++ rest) w h2))
+    ∙ group-over s (at + length t + length v) n rest r h3
+    ∙ ap (λ (k : ℕ). skipGroup l s k n) (omega (arith, length-append t (v ++ more), length-append v more))
+group-over s at n rest (a-group {l = l} {n = m} {v = v} {rest = more} lo hi g r) h =
+    let t = uvarint (m * 8 + 3) in
+    let y = uvarint (m * 8 + 4) in
+    let h1 : drop at s ≡ t ++ ((v ++ y) ++ (more ++ rest)) = h ∙ append-assoc t ((v ++ y) ++ more) rest
+    ∙ ap (λ (i : List ℕ). t ++ i) (append-assoc (v ++ y) more rest) in
+    let h2 : drop (at + length t) s ≡ (v ++ y) ++ (more ++ rest) = drop-front s at t ((v ++ y) ++ (more ++ rest)) h1 in
+    let h3 : drop (at + length t + length (v ++ y)) s ≡ more ++ rest =
+    drop-front s (at + length t) (v ++ y) (more ++ rest) h2 in
+    let h4 : drop (at + length t) s ≡ v ++ (y ++ (more ++ rest)) = h2 ∙ append-assoc v y (more ++ rest) in
+    let i : skipGroup l s (at + length t) m ≡ skip.Next (at + length t + length (v ++ y)) =
+    group-over s (at + length t) m (y ++ (more ++ rest)) g h4
+    ∙ group-ends l s (at + length t + length v) m (more ++ rest) lo hi
+    (drop-front s (at + length t) v (y ++ (more ++ rest)) h4)
+    ∙ ap skip.Next (omega (arith, length-append v y)) in
+    tag-on (suc l) s at n m 3 (v ++ y) (more ++ rest) lo hi (omega arith) refl h1 (passed-group l s _ m _ i)
+    ∙ group-over s (at + length t + length (v ++ y)) n rest r h3
+    ∙ ap (λ (k : ℕ). skipGroup (suc l) s k n)
+    (omega (arith, length-append t ((v ++ y) ++ more), length-append (v ++ y) more))
+
 -- the fields of a group and its end tag
 pub group-passes : {l : ℕ} {v : List ℕ} {es : List Entry} (s : List ℕ) (at n : ℕ) (rest : List ℕ) → 1 ≤ n
     → n ≤ 536870911 → BodyIn l v es → drop at s ≡ v ++ (uvarint (n * 8 + 4) ++ rest)
     → skipGroup l s at n ≡ skip.Next (at + length v + length (uvarint (n * 8 + 4)))
-group-passes {l} s at n rest low high none h =
-    group-step l s at n ∙ ap (inGroup (λ j. skipGroup j s) l s n) (tag-reads s at n 4 rest low high (omega arith) h)
-    ∙ simp (eq-eqb n n refl) (ap skip.Next (omega arith))
-group-passes {l} s at n rest low high (field {n = m} {type = type} {v = v} {rest = more} lo hi w r) h =
-    let t = uvarint (m * 8 + type) in
-    let z = uvarint (n * 8 + 4) ++ rest in
-    let y = value-type w in
-    let h1 : drop at s ≡ t ++ (v ++ (more ++ z)) = h ∙ append-assoc t (v ++ more) z
-    ∙ ap (λ (i : List ℕ). t ++ i) (append-assoc v more z) in
-    let h2 : drop (at + length t) s ≡ v ++ (more ++ z) = drop-front s at t (v ++ (more ++ z)) h1 in
-    let h3 : drop (at + length t + length v) s ≡ more ++ z = drop-front s (at + length t) v (more ++ z) h2 in
-    tag-on l s at n m type v (more ++ z) lo hi (y .2) (y .1) h1
-    (passed-value l s _ m type _ (y .0) (y .1) (value-passes s (at + length t) (more ++ z) w h2))
-    ∙ group-passes s (at + length t + length v) n rest low high r h3
-    ∙ ap skip.Next (omega (arith, length-append t (v ++ more), length-append v more))
-group-passes s at n rest low high (a-group {l = l} {n = m} {v = v} {rest = more} lo hi g r) h =
-    let t = uvarint (m * 8 + 3) in
-    let y = uvarint (m * 8 + 4) in
-    let z = uvarint (n * 8 + 4) ++ rest in
-    let h1 : drop at s ≡ t ++ ((v ++ y) ++ (more ++ z)) = h ∙ append-assoc t ((v ++ y) ++ more) z
-    ∙ ap (λ (i : List ℕ). t ++ i) (append-assoc (v ++ y) more z) in
-    let h2 : drop (at + length t) s ≡ (v ++ y) ++ (more ++ z) = drop-front s at t ((v ++ y) ++ (more ++ z)) h1 in
-    let h3 : drop (at + length t + length (v ++ y)) s ≡ more ++ z =
-    drop-front s (at + length t) (v ++ y) (more ++ z) h2 in
-    let i : skipGroup l s (at + length t) m ≡ skip.Next (at + length t + length (v ++ y)) =
-    group-passes s (at + length t) m (more ++ z) lo hi g (h2 ∙ append-assoc v y (more ++ z))
-    ∙ ap skip.Next (omega (arith, length-append v y)) in
-    tag-on (suc l) s at n m 3 (v ++ y) (more ++ z) lo hi (omega arith) refl h1 (passed-group l s _ m _ i)
-    ∙ group-passes s (at + length t + length (v ++ y)) n rest low high r h3
-    ∙ ap skip.Next (omega (arith, length-append t ((v ++ y) ++ more), length-append (v ++ y) more))
+group-passes {l} {v} s at n rest low high g h =
+    group-over s at n (uvarint (n * 8 + 4) ++ rest) g h
+    ∙ group-ends l s (at + length v) n rest low high (drop-front s at v (uvarint (n * 8 + 4) ++ rest) h)

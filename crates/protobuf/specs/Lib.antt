@@ -1,5 +1,5 @@
 -- To be believed: Refusal, Told, Field, Grammar, Faults, Walk, Encode.
--- Theorems: Laws, RefusalLaws, WalkLaws, Exactly, FaultLaws, Rows, Refused.
+-- Theorems: Laws, RefusalLaws, WalkLaws, Exactly, FaultLaws, ModeLaws, Rows, Refused.
 -- On the way to them: EncodeLaws, Spelt, GroupLaws.
 pub mod Refusal
 pub mod Told
@@ -15,6 +15,7 @@ pub mod Exactly
 pub mod Encode
 pub mod Faults
 pub mod FaultLaws
+pub mod ModeLaws
 pub mod EncodeLaws
 pub mod Rows
 pub mod Refused

@@ -101,7 +101,7 @@ skip-of-len : (mode : Mode) (s : List ℕ) (at n type : ℕ) → eqb type 0 ≡ 
 unfolding skipValue
 skip-of-len mode s at n type t0 t2 = skip-of mode s at n type 2 t2 refl refl ∙ simp (t0, t2)
 
-read-outline : (mode : Mode) (s : List ℕ) (n type at : ℕ)
+pub read-outline : (mode : Mode) (s : List ℕ) (n type at : ℕ)
     → walkSkip n type at (skipField mode maxGroups s at n type) ≡ outline (readValue mode s n type at)
 unfolding readValue
 read-outline mode s n type at =
