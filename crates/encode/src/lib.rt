@@ -19,8 +19,8 @@ ghost use Rattle.canon.specs.Canon.{placed, slotIn, figured, numbered, ownPart,
 ghost use Rattle.encode.specs.Encode.{encodeAnswer, encodeLeft};
 ghost use Rattle.encode.specs.Sign.{signAnswer, signLeft};
 ghost use Rattle.encode.specs.Puts.{Puts, Fits, headAt};
-use basis::Mode;
 use basis::Dialect;
+use basis::Mode;
 use ids::MessageAt;
 use ids::MessageBytes;
 use ids::message_at;
@@ -277,7 +277,15 @@ fn emit_anew(mode: Mode, input: &[u8], n: u64, kind: Kind, out: &mut [u8], at: u
 }
 
 // A field, where it is length-delimited and has the number n: the canonical bytes of the submessage in it, measured before they are written.
-fn emit_sub(mode: Mode, input: &[u8], f: Field, n: u64, kind: Kind, out: &mut [u8], at: usize) -> usize
+fn emit_sub(
+    mode: Mode,
+    input: &[u8],
+    f: Field,
+    n: u64,
+    kind: Kind,
+    out: &mut [u8],
+    at: usize,
+) -> usize
     requires { ⌜ (n ≤ 6) × FieldWithin (now input) f × Fits at (cond (isBytes n f) (bytesField n (canon mode kind (valueIn (now input) f))) []) ⌝ }
     ensures { λ r. ⌜ Puts (now (out .entry)) at (cond (isBytes n f) (bytesField n (canon mode kind (valueIn (now (input .entry)) f))) []) (now (out .exit)) r ⌝ }
 {
@@ -317,7 +325,16 @@ fn emit_message(mode: Mode, part: &[u8], kind: Kind, out: &mut [u8], at: usize) 
 }
 
 // The entries m of a field, where it is the submessage n of that kind.
-fn emit_entry(mode: Mode, body: &[u8], f: Field, kind: Kind, n: u64, m: u64, out: &mut [u8], at: usize) -> usize
+fn emit_entry(
+    mode: Mode,
+    body: &[u8],
+    f: Field,
+    kind: Kind,
+    n: u64,
+    m: u64,
+    out: &mut [u8],
+    at: usize,
+) -> usize
     requires { ⌜ (m ≤ 6) × FieldWithin (now body) f × Fits at (cond (isBytes n f) (heldPart mode (canon mode) m (valueIn (now body) f) (heldOf (rowOf kind m))) []) ⌝ }
     ensures { λ r. ⌜ Puts (now (out .entry)) at (cond (isBytes n f) (heldPart mode (canon mode) m (valueIn (now (body .entry)) f) (heldOf (rowOf kind m))) []) (now (out .exit)) r ⌝ }
 {
@@ -333,7 +350,15 @@ fn emit_entry(mode: Mode, body: &[u8], f: Field, kind: Kind, n: u64, m: u64, out
 }
 
 // The entries m of each submessage n, one submessage after the other.
-fn emit_entries(mode: Mode, body: &[u8], kind: Kind, n: u64, m: u64, out: &mut [u8], at: usize) -> usize
+fn emit_entries(
+    mode: Mode,
+    body: &[u8],
+    kind: Kind,
+    n: u64,
+    m: u64,
+    out: &mut [u8],
+    at: usize,
+) -> usize
     requires { ⌜ (m ≤ 6) × Fits at (entriesOf mode kind n (now body) m) ⌝ }
     ensures { λ r. ⌜ Puts (now (out .entry)) at (entriesOf mode kind n (now (body .entry)) m) (now (out .exit)) r ⌝ }
 {

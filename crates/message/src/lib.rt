@@ -12,9 +12,9 @@ ghost use Rattle.schema.specs.Slots.{noSlots};
 ghost use Rattle.schema.specs.Count.{FieldWithin};
 ghost use Rattle.message.specs.Rows.{bareRow, ownRows, rowsOf, fieldRows, kindCode, numberWords, placeWords, placesWords, wordsOf, wordsOfAll, kindFrom, recordAt};
 ghost use Rattle.message.specs.Decode.{hasControl, decodeAnswer, decodeTable};
-use basis::Mode;
 use basis::Dialect;
 use basis::Edition;
+use basis::Mode;
 use protobuf::Field;
 use protobuf::Refusal;
 use protobuf::Step;
@@ -213,7 +213,14 @@ fn write_leaf(kind: Kind, start: usize, end: usize, table: &mut [u64], row: usiz
 }
 
 // Writes a message's own record, where its kind has one; the row after it.
-fn write_own(mode: Mode, input: &[u8], kind: Kind, base: usize, table: &mut [u64], row: usize) -> usize
+fn write_own(
+    mode: Mode,
+    input: &[u8],
+    kind: Kind,
+    base: usize,
+    table: &mut [u64],
+    row: usize,
+) -> usize
     requires { ⌜ (base + length (now input) ≤ 65536) × ((row + ownOf kind) * 20 ≤ length (now table)) ⌝ }
     ensures { λ r. ⌜ r ≡ row + length (ownRows mode kind base (now (input .entry))) ⌝ }
     ensures { λ _. ⌜ now (table .exit) ≡ sets (now (table .entry)) (row * 20) (wordsOfAll (ownRows mode kind base (now (input .entry)))) ⌝ }
@@ -237,7 +244,14 @@ fn write_own(mode: Mode, input: &[u8], kind: Kind, base: usize, table: &mut [u64
 }
 
 // Writes the records of a message whose bytes begin at base, from a row on; the row after them.
-fn write_message(mode: Mode, input: &[u8], kind: Kind, base: usize, table: &mut [u64], row: usize) -> usize
+fn write_message(
+    mode: Mode,
+    input: &[u8],
+    kind: Kind,
+    base: usize,
+    table: &mut [u64],
+    row: usize,
+) -> usize
     requires { ⌜ (base + length (now input) ≤ 65536) × ((row + length (rowsOf mode kind base (now input))) * 20 ≤ length (now table)) ⌝ }
     ensures { λ r. ⌜ r ≡ row + length (rowsOf mode kind base (now (input .entry))) ⌝ }
     ensures { λ _. ⌜ now (table .exit) ≡ sets (now (table .entry)) (row * 20) (wordsOfAll (rowsOf mode kind base (now (input .entry)))) ⌝ }

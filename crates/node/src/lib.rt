@@ -275,7 +275,14 @@ fn unseen(
 
 // Puts the parts that the IDONTWANTs of a second body do not name into another table; how many those are. Where there is no second body, no table is made
 // for its ids.
-fn not_declined(mode: Mode, body: &[u8], from: &[usize], n: usize, unwanted: &[u8], to: &mut [usize]) -> usize
+fn not_declined(
+    mode: Mode,
+    body: &[u8],
+    from: &[usize],
+    n: usize,
+    unwanted: &[u8],
+    to: &mut [usize],
+) -> usize
     requires { ⌜ Parts (now body) (now from) n ⌝ }
     requires { ⌜ n * 2 ≤ length (now to) ⌝ }
     requires { ⌜ length (atPath mode (3 ∷ 5 ∷ 1 ∷ []) (now unwanted)) ≤ 512 ⌝ }

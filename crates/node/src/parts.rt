@@ -112,7 +112,15 @@ fn field_at(
 {
     if f.wire_type == WIRE_LEN {
         if f.field == path[0] {
-            return parts_at(mode, body, start + f.start, start + f.next, &path[1..], table, n);
+            return parts_at(
+                mode,
+                body,
+                start + f.start,
+                start + f.next,
+                &path[1..],
+                table,
+                n,
+            );
         }
     }
     n

@@ -172,7 +172,8 @@ skip-named : (n type to : ℕ) (f : Field) (r : Skip) → step.At f ≡ ofSkip n
 skip-named n type to f (skip.Next e) h = record { number-of = cc; type-of = cc; end-of = cc }
 skip-named n type to f (skip.Refused why) h = clash (cc)
 
-read-named : (mode : Mode) (s : List ℕ) (n type to : ℕ) (f : Field) → step.At f ≡ readValue mode s n type to → Named n type to f
+read-named : (mode : Mode) (s : List ℕ) (n type to : ℕ) (f : Field) → step.At f ≡ readValue mode s n type to
+    → Named n type to f
 unfolding readValue
 read-named mode s n type to f h =
     either (eqb type 0) (λ t0. value-named n type to f (readVarint s to) (simp t0 at h))
@@ -188,7 +189,8 @@ pub record Stood (mode : Mode) (s : List ℕ) (at : ℕ) (f : Field) : Type 0 wh
   pub tagged : f .«tag_end» ≡ at + length (uvarint (f .field * 8 + f .«wire_type»))
   pub here : drop at s ≡ uvarint (f .field * 8 + f .«wire_type») ++ (bytes-of ++ drop (f .next) s)
 
-tag-stood : (mode : Mode) (s : List ℕ) (at : ℕ) (f : Field) (r : Tag) → Bytes s → r ≡ readTag s at → step.At f ≡ ofTag mode s r
+tag-stood : (mode : Mode) (s : List ℕ) (at : ℕ) (f : Field) (r : Tag) → Bytes s → r ≡ readTag s at
+    → step.At f ≡ ofTag mode s r
     → Stood mode s at f
 tag-stood mode s at f tag.End b q h = clash (cc)
 tag-stood mode s at f (tag.Refused why) b q h = clash (cc)
@@ -208,11 +210,13 @@ tag-stood mode s at f (tag.Field n type to) b q h =
       here = t .spells .here ∙ ap₂ (λ (x y : List ℕ). x ++ y) (sym tn) (v .here);
     }
 
-pub field-stood : (mode : Mode) (s : List ℕ) (at : ℕ) (f : Field) → Bytes s → step.At f ≡ readField mode s at → Stood mode s at f
+pub field-stood : (mode : Mode) (s : List ℕ) (at : ℕ) (f : Field) → Bytes s → step.At f ≡ readField mode s at
+    → Stood mode s at f
 unfolding readField
 field-stood mode s at f b h = tag-stood mode s at f (readTag s at) b refl h
 
-field-sound : (mode : Mode) (s : List ℕ) (at : ℕ) (f : Field) (es : List Entry) → Bytes s → step.At f ≡ readField mode s at
+field-sound : (mode : Mode) (s : List ℕ) (at : ℕ) (f : Field) (es : List Entry) → Bytes s
+    → step.At f ≡ readField mode s at
     → Body mode (drop (f .next) s) es → Body mode (drop at s) (entryOf s f ∷ es)
 unfolding entryOf
 field-sound mode s at f es b h w =
@@ -260,7 +264,8 @@ unfolding readField
 field-ended mode s at h = tag-ended mode s at (readTag s at) refl h
 
 step-sound : (mode : Mode) (s : List ℕ) (at : ℕ) (fs : List Field) (r : Step) → Bytes s → r ≡ readField mode s at
-    → onStep (walkAt mode s) r ≡ whole fs → ((f : Field) (gs : List Field) → walkAt mode s (f .next) ≡ whole gs → (fs ≡ f ∷ gs)
+    → onStep (walkAt mode s) r ≡ whole fs → ((f : Field) (gs : List Field) → walkAt mode s (f .next) ≡ whole gs
+    → (fs ≡ f ∷ gs)
     → Body mode (drop (f .next) s) (entriesOf s gs)) → Body mode (drop at s) (entriesOf s fs)
 step-sound mode s at [] step.End b q h ih = rw (drop-of-length-le s (field-ended mode s at q)) none
 step-sound mode s at (f ∷ fs) step.End b q h ih = clash (cc)
@@ -275,8 +280,10 @@ step-sound mode s at (g ∷ gs) (step.At f) b q h ih =
     let ew : walkAt mode s (f .next) ≡ whole gs = cc in
     rw eg (field-sound mode s at f (entriesOf s gs) b q (ih f gs ew (ap (λ (x : Field). x ∷ gs) eg)))
 
-sound : (mode : Mode) (s : List ℕ) (fs : List Field) (at : ℕ) → Bytes s → walkAt mode s at ≡ whole fs → Body mode (drop at s) (entriesOf s fs)
-sound mode s [] at b h = step-sound mode s at [] (readField mode s at) b refl (sym (walk-on mode s at (readField mode s at) refl) ∙ h)
+sound : (mode : Mode) (s : List ℕ) (fs : List Field) (at : ℕ) → Bytes s → walkAt mode s at ≡ whole fs
+    → Body mode (drop at s) (entriesOf s fs)
+sound mode s [] at b h = step-sound mode s at [] (readField mode s at) b refl
+    (sym (walk-on mode s at (readField mode s at) refl) ∙ h)
     (λ f gs w e. clash (cc))
 sound mode s (g ∷ hs) at b h =
     step-sound mode s at (g ∷ hs) (readField mode s at) b refl (sym (walk-on mode s at (readField mode s at) refl) ∙ h)
@@ -312,7 +319,8 @@ varint-held mode s n to v rest b h =
       left = drop-front s to (uvarint v) rest h;
     }
 
-bytes-held : (mode : Mode) (s : List ℕ) (n to : ℕ) (d rest : List ℕ) → length d < 2 ^ 64 → drop to s ≡ (uvarint (length d) ++ d)
+bytes-held : (mode : Mode) (s : List ℕ) (n to : ℕ) (d rest : List ℕ) → length d < 2 ^ 64
+    → drop to s ≡ (uvarint (length d) ++ d)
     ++ rest → Held mode s n 2 to (bytes d) rest
 unfolding readValue readLen entryOf payloadOf
 bytes-held mode s n to d rest b h =
@@ -464,7 +472,8 @@ body-walks mode s es g = complete mode s 0 refl g refl
 
 -- a body is the grammar's exactly where its walk reaches the end, and the fields that the walk finds are the grammar's
 pub exactly : (mode : Mode) (s : List ℕ) (es : List Entry) → Bytes s → Walks mode s 0 es ↔ Body mode s es
-exactly mode s es b = (λ w. subst (Body mode s) (w .entries) (sound mode s (w .fields) 0 b (w .walked)), body-walks mode s es)
+exactly mode s es b = (λ w. subst (Body mode s) (w .entries)
+    (sound mode s (w .fields) 0 b (w .walked)), body-walks mode s es)
 
 -- a body has one meaning
 whole-same : (fs gs : List Field) → whole fs ≡ whole gs → fs ≡ gs

@@ -363,7 +363,8 @@ module _ (s : List ℕ) (b : Bytes s) (at : ℕ) (later : (l to n : ℕ) (why : 
       let t = tag-spelt s at n type to b q in
       either (eqb type 3)
       (λ t3. opened-fault l n to why (rw (eqb-true type 3 t3) at t) (tag-moves s at n type to q) (simp t3 at h))
-      (λ t3. value-fault Groups l s at n type to why b t (untaken-rest Groups type (t .bits) t3 t4) (simp (t3, t4) at h))
+      (λ t3. value-fault Groups l s at n type to why b t (untaken-rest Groups type (t .bits) t3 t4)
+      (simp (t3, t4) at h))
 
   on-stopped : (l n m type to : ℕ) (why : WireError) (r : Skip) → tagged.Field m type to ≡ readTag s at
       → eqb type 4 ≡ false → r ≡ passed (λ j. skipGroup j s) l s to m type

@@ -164,4 +164,5 @@ walkTag mode s (tag.Refused why) = walk.Refused (here why)
 walkTag mode s (tag.Field n type at) = walkSkip n type at (skipField mode maxGroups s at n type)
 
 unfoldable pub walkStep : Mode → List ℕ → ℕ → Walk
-walkStep mode s at = cond (ltb 65536 (length s)) (walk.Refused (nowhere (TooLarge (length s)))) (walkTag mode s (readTag s at))
+walkStep mode s at = cond (ltb 65536 (length s)) (walk.Refused (nowhere (TooLarge (length s))))
+    (walkTag mode s (readTag s at))

@@ -183,7 +183,8 @@ pub group-step : (l : ℕ) (s : List ℕ) (at n : ℕ)
     → skipGroup l s at n ≡ inGroup (λ j. skipGroup j s) l s n (readTag s at)
 unfolding skipGroup skipFrom
 group-step l s at n =
-    same-in s (skipFrom (length s - at) s) (from-moves (length s - at) s) (λ j. skipGroup j s) l at n (readTag s at) refl
+    same-in s (skipFrom (length s - at) s) (from-moves (length s - at) s) (λ j. skipGroup j s) l at n
+        (readTag s at) refl
     (λ i a b u v. enough (length s - at) (suc (length s - a)) s i a b (omega arith) (omega arith))
 
 pub group-moves : (s : List ℕ) → Moves s (λ j. skipGroup j s)
@@ -234,7 +235,8 @@ skip-stands mode s at n type to f (skip.Next e) p q h =
     record { tagged = omega arith; begins = omega arith; ends = omega arith; within = omega arith }
 skip-stands mode s at n type to f (skip.Refused why) p q h = clash (cc)
 
-read-stands : (mode : Mode) (s : List ℕ) (at n type to : ℕ) (f : Field) → at < to → step.At f ≡ readValue mode s n type to
+read-stands : (mode : Mode) (s : List ℕ) (at n type to : ℕ) (f : Field) → at < to
+    → step.At f ≡ readValue mode s n type to
     → Stands s at f
 unfolding readValue
 read-stands mode s at n type to f p h =

@@ -104,7 +104,8 @@ tag-early : (s : List ℕ) (at : ℕ) (why : WireError) → tag.Refused why ≡ 
 unfolding readTag
 tag-early s at why h =
     either (leb (length s) at) (λ t. clash (let k = simp t at h in cc))
-    (λ t. let l = leb-false (length s) at t in tag-after (length s) at (readUvarint (drop at s)) why (omega (arith, l)) (simp t at h))
+    (λ t. let l = leb-false (length s) at t in tag-after (length s) at (readUvarint (drop at s)) why (omega (arith, l))
+    (simp t at h))
 
 part-after : (s : List ℕ) (at : ℕ) (r : Uvarint) (why : WireError) → at ≤ length s → r ≡ readUvarint (drop at s)
     → part.Refused why ≡ after at part.Refused (partOf (length s)) r → Early (length s) why
@@ -211,7 +212,8 @@ module _ (s : List ℕ) (go : ℕ → ℕ → ℕ → Skip) (goes : (l at n : �
       (λ t4. on-given l n why (passed go l s to m type) (λ e p. passed-moves s go moves l to m type e p .1)
       (λ w p. passed-given l to m type w (t .1) p) (simp t4 at h))
 
-from-given : (k : ℕ) (s : List ℕ) (l at n : ℕ) (why : WireError) → at ≤ length s → skip.Refused why ≡ skipFrom k s l at n
+from-given : (k : ℕ) (s : List ℕ) (l at n : ℕ) (why : WireError) → at ≤ length s
+    → skip.Refused why ≡ skipFrom k s l at n
     → Given Groups (length s) why
 unfolding skipFrom
 from-given zero s l at n why h q = let e : why ≡ GroupOpen = cc in rw e (by-open (length s))

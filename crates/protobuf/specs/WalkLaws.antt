@@ -59,7 +59,8 @@ walk-step mode s at =
     (omega arith) (omega arith))
 
 -- the same with the step's answer in hand
-pub walk-on : (mode : Mode) (s : List ℕ) (at : ℕ) (r : Step) → r ≡ readField mode s at → walkAt mode s at ≡ onStep (walkAt mode s) r
+pub walk-on : (mode : Mode) (s : List ℕ) (at : ℕ) (r : Step) → r ≡ readField mode s at
+    → walkAt mode s at ≡ onStep (walkAt mode s) r
 walk-on mode s at r e = walk-step mode s at ∙ ap (onStep (walkAt mode s)) (sym e)
 
 -- past the end there is no field
@@ -118,17 +119,21 @@ tag-outline mode s tag.End = refl
 tag-outline mode s (tag.Refused why) = refl
 tag-outline mode s (tag.Field n type at) = read-outline mode s n type at
 
-pub walk-outline : (mode : Mode) (s : List ℕ) (at : ℕ) → length s ≤ 65536 → walkStep mode s at ≡ outline (readField mode s at)
+pub walk-outline : (mode : Mode) (s : List ℕ) (at : ℕ) → length s ≤ 65536
+    → walkStep mode s at ≡ outline (readField mode s at)
 unfolding walkStep readField
 walk-outline mode s at h = simp (le-ltb _ _ h) (tag-outline mode s (readTag s at))
 
 -- ---- induction along the walk: what holds at the end and at a refusal, and before a field where it holds after it,
 -- holds from every place
-module _ (mode : Mode) (s : List ℕ) (P : ℕ → Fields → Type 0) (at-end : (at : ℕ) → P at end) (at-refusal : (at : ℕ) (why : WireError)
+module _ (mode : Mode) (s : List ℕ) (P : ℕ → Fields → Type 0) (at-end : (at : ℕ) → P at end)
+    (at-refusal : (at : ℕ) (why : WireError)
     → step.Refused why ≡ readField mode s at → P at (refused why)) (at-field : (at : ℕ) (f : Field) → Stands s at f
-    → step.At f ≡ readField mode s at → P (f .next) (walkAt mode s (f .next)) → P at (f then walkAt mode s (f .next))) where
+    → step.At f ≡ readField mode s at → P (f .next) (walkAt mode s (f .next))
+    → P at (f then walkAt mode s (f .next))) where
   along-step : (at : ℕ) (r : Step) → r ≡ readField mode s at
-      → ((f : Field) → step.At f ≡ readField mode s at → P (f .next) (walkAt mode s (f .next))) → P at (onStep (walkAt mode s) r)
+      → ((f : Field) → step.At f ≡ readField mode s at → P (f .next) (walkAt mode s (f .next)))
+      → P at (onStep (walkAt mode s) r)
   along-step at step.End e ih = at-end at
   along-step at (step.Refused why) e ih = at-refusal at why e
   along-step at (step.At f) e ih = at-field at f (field-stands mode s at f e) e (ih f e)

@@ -1,7 +1,7 @@
--- Which bodies mean which RPC in a dialect, from the Protocol Buffers encoding document and the scope's rules. A body is fields one
--- after the other (protobuf's `Body`); a field is known by its number and its wire type, and all others are passed
--- over, groups among them, where the dialect's mode takes them; of a singular field the last wins; repeated ones append; a submessage is a body of its own; topics are UTF-8.
--- Nothing here speaks of a reader.
+-- Which bodies mean which RPC in a dialect, from the Protocol Buffers encoding document and the scope's rules. A body is
+-- fields one after the other (protobuf's `Body`); a field is known by its number and its wire type, and all others are
+-- passed over, groups among them where the dialect's mode takes them; of a singular field the last wins; repeated ones
+-- append; a submessage is a body of its own; topics are UTF-8. Nothing here speaks of a reader.
 use Prim.Native.Nat.{ℕ}
 use mathlib.Core.Bool.{Bool, not, cond}
 use mathlib.Core.List.{List, [], _∷_, _++_}
@@ -107,7 +107,8 @@ pub data IsPrune (mode : Mode) : List ℕ → ControlPrune → Type 0 where
       → IsPrune mode s (record { «topic_id» = last (bytesIn 1 es); peers = ps; backoff = last (numbersIn 3 es) })
 
 pub data IsIDontWant (mode : Mode) : List ℕ → ControlIDontWant → Type 0 where
-  is-idontwant : {s : List ℕ} {es : List Entry} → Body mode s es → IsIDontWant mode s (record { «message_ids» = bytesIn 1 es })
+  is-idontwant : {s : List ℕ} {es : List Entry} → Body mode s es
+      → IsIDontWant mode s (record { «message_ids» = bytesIn 1 es })
 
 -- the bytes in the length-delimited fields 5 of a control: to the edition 1.1 an unknown field
 abbrev pub idontwantsIn : Edition → List Entry → List (List ℕ)
@@ -117,7 +118,8 @@ idontwantsIn V12 es = bytesIn 5 es
 pub data IsControl (d : Dialect) : List ℕ → ControlMessage → Type 0 where
   is-control : {s : List ℕ} {es : List Entry} {hs : List ControlIHave} {ws : List ControlIWant} {gs : List ControlGraft}
       {ps : List ControlPrune} {ds : List ControlIDontWant}
-      → Body (d .mode) s es → Pairs (IsIHave (d .mode)) (bytesIn 1 es) hs → Pairs (IsIWant (d .mode)) (bytesIn 2 es) ws → Pairs (IsGraft (d .mode)) (bytesIn 3 es) gs
+      → Body (d .mode) s es → Pairs (IsIHave (d .mode)) (bytesIn 1 es) hs → Pairs (IsIWant (d .mode)) (bytesIn 2 es) ws
+      → Pairs (IsGraft (d .mode)) (bytesIn 3 es) gs
       → Pairs (IsPrune (d .mode)) (bytesIn 4 es) ps → Pairs (IsIDontWant (d .mode)) (idontwantsIn (d .edition) es) ds
       → IsControl d s (record { ihave = hs; iwant = ws; graft = gs; prune = ps; idontwant = ds })
 
@@ -141,6 +143,7 @@ joined (c ∷ cs) = joinTo c (joined cs)
 
 pub data IsRpc (d : Dialect) : List ℕ → Rpc → Type 0 where
   is-rpc : {s : List ℕ} {es : List Entry} {ss : List SubOpts} {ms : List RawMessage} {cs : List ControlMessage}
-      → Body (d .mode) s es → Pairs (IsSubOpts (d .mode)) (bytesIn 1 es) ss → Pairs (IsMessage (d .mode)) (bytesIn 2 es) ms
+      → Body (d .mode) s es → Pairs (IsSubOpts (d .mode)) (bytesIn 1 es) ss
+      → Pairs (IsMessage (d .mode)) (bytesIn 2 es) ms
       → Pairs (IsControl d) (bytesIn 3 es) cs
       → IsRpc d s (record { subscriptions = ss; publish = ms; control = joined cs })

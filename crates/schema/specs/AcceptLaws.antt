@@ -33,7 +33,8 @@ pub data Gate (d : Dialect) (s : List ℕ) : Tested → Type 0 where
   passes : length s ≤ 65536 → (n : ℕ) → counted (d .mode) (kind.Rpc (d .edition)) s ≡ count.Records n → n ≤ 512
       → Gate d s (Records n)
 
-of-counted : (d : Dialect) (s : List ℕ) (r : Counted) → length s ≤ 65536 → counted (d .mode) (kind.Rpc (d .edition)) s ≡ r
+of-counted : (d : Dialect) (s : List ℕ) (r : Counted) → length s ≤ 65536
+    → counted (d .mode) (kind.Rpc (d .edition)) s ≡ r
     → Gate d s (few (spotIn (d .mode) (kind.Rpc (d .edition)) s) r)
 of-counted d s (count.Refused why) h e = bad h why e
 of-counted d s (count.Records n) h e =
@@ -58,7 +59,8 @@ pub records-many : (d : Dialect) (s : List ℕ) (n : ℕ) → length s ≤ 65536
 unfolding bodyRecords
 records-many d s n h e l = simp (le-ltb 65536 (length s) h, e, lt-ltb 512 n l)
 
-pub records-large : (d : Dialect) (s : List ℕ) → 65536 < length s → bodyRecords d s ≡ Refused (nowhere (TooLarge (length s)))
+pub records-large : (d : Dialect) (s : List ℕ) → 65536 < length s
+    → bodyRecords d s ≡ Refused (nowhere (TooLarge (length s)))
 unfolding bodyRecords
 records-large d s h = simp (lt-ltb 65536 (length s) h)
 

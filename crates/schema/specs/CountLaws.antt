@@ -46,7 +46,8 @@ same-along f g k s (x then w) h =
     (λ j form p e. h j p (sub-rank k j form (x .field) (x .«wire_type») e)))
     (same-along f g k s w h)
 
-pub count-along : (mode : Mode) (k : Kind) (s : List ℕ) → counted mode k s ≡ countAlong (counted mode) k s (fieldsOf mode s)
+pub count-along : (mode : Mode) (k : Kind) (s : List ℕ)
+    → counted mode k s ≡ countAlong (counted mode) k s (fieldsOf mode s)
 unfolding counted
 count-along mode k s = unfolds (countStep mode) (Records 0) (λ f g j p h. same-along f g j p (fieldsOf mode p) h) k s
 
@@ -101,7 +102,8 @@ then-fits (Records x) (Refused why) n h = clash (cc)
 then-fits (Refused why) b n h = clash (cc)
 
 -- along the walk, where submessages keep to it
-walk-fits : (mode : Mode) (k : Kind) (s : List ℕ) → ((j : Kind) (p : List ℕ) (x : ℕ) → rank j < rank k → counted mode j p ≡ Records x
+walk-fits : (mode : Mode) (k : Kind) (s : List ℕ) → ((j : Kind) (p : List ℕ) (x : ℕ) → rank j < rank k
+    → counted mode j p ≡ Records x
     → x ≤ length p) → (at n : ℕ) → countAlong (counted mode) k s (walkAt mode s at) ≡ Records n → n ≤ length s - at
 walk-fits mode k s ih =
     along mode s (λ (at : ℕ) (w : Fields). (n : ℕ) → countAlong (counted mode) k s w ≡ Records n → n ≤ length s - at)
@@ -118,10 +120,12 @@ walk-fits mode k s ih =
 pub count-fits : (mode : Mode) (k : Kind) (s : List ℕ) (n : ℕ) → counted mode k s ≡ Records n → n ≤ length s
 count-fits mode =
     by-rank (λ k. (s : List ℕ) (n : ℕ) → counted mode k s ≡ Records n → n ≤ length s)
-    (λ k ih s n h. let l = walk-fits mode k s (λ j p x q e. ih j q p x e) 0 n (sym (count-along mode k s) ∙ h) in omega arith)
+    (λ k ih s n h. let l = walk-fits mode k s (λ j p x q e. ih j q p x e) 0 n (sym (count-along mode k s)
+    ∙ h) in omega arith)
 
 -- a field has no more records than bytes, its tag counted
-pub field-fits : (mode : Mode) (k : Kind) (s : List ℕ) (at : ℕ) (f : Field) (m : ℕ) → Stands s at f → fieldCount mode k s f ≡ Records m
+pub field-fits : (mode : Mode) (k : Kind) (s : List ℕ) (at : ℕ) (f : Field) (m : ℕ) → Stands s at f
+    → fieldCount mode k s f ≡ Records m
     → m ≤ f .next - at
 unfolding fieldCount
 field-fits mode k s at f m st h = role-fits s at f (roleOf k (f .field) (f .«wire_type»)) (counted mode) m st h

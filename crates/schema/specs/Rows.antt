@@ -51,13 +51,17 @@ pub rows : (e : Edition) →
     × (bodyRecords (spoken Plain e) (0x0a ∷ 0x01 ∷ 0x08 ∷ 0x0a ∷ 0x00 ∷ []) ≡ at (Varint BufferTooShort 1) 3 1 0 0)
     × (bodyRecords (spoken Plain e) (0x0a ∷ 0x03 ∷ 0x12 ∷ 0x01 ∷ 0xff ∷ []) ≡ at (InvalidUtf8 1) 3 1 0 0)
     × (bodyRecords (spoken Plain e) (0x12 ∷ 0x03 ∷ 0x22 ∷ 0x01 ∷ 0xff ∷ []) ≡ at (InvalidUtf8 1) 3 2 0 0)
-    × (bodyRecords (spoken Plain e) (0x12 ∷ 0x80 ∷ 0x01 ∷ 0x12 ∷ 0x7b ∷ replicate 123 0 ++ (0x22 ∷ 0x01 ∷ 0xff ∷ [])) ≡ at (InvalidUtf8 126) 129 2 0 0)
+    × (bodyRecords (spoken Plain e) (0x12 ∷ 0x80 ∷ 0x01 ∷ 0x12 ∷ 0x7b ∷ replicate 123 0 ++ (0x22 ∷ 0x01 ∷ 0xff ∷ []))
+    ≡ at (InvalidUtf8 126) 129 2 0 0)
     × (bodyRecords (spoken Plain e) (0x1a ∷ 0x00 ∷ 0x1a ∷ 0x01 ∷ 0x80 ∷ []) ≡ at (Varint BufferTooShort 0) 4 3 0 0)
     × (bodyRecords (spoken Plain e) (0x1a ∷ 0x05 ∷ 0x0a ∷ 0x03 ∷ 0x0a ∷ 0x01 ∷ 0xff ∷ []) ≡ at (InvalidUtf8 1) 5 3 1 0)
     × (bodyRecords (spoken Plain e) (0x1a ∷ 0x04 ∷ 0x22 ∷ 0x02 ∷ 0x12 ∷ 0x05 ∷ []) ≡ at (FieldOverflow 2 5 0) 6 3 4 0)
-    × (bodyRecords (spoken Plain e) (0x1a ∷ 0x06 ∷ 0x22 ∷ 0x04 ∷ 0x12 ∷ 0x02 ∷ 0x0a ∷ 0x05 ∷ []) ≡ at (FieldOverflow 2 5 0) 8 3 4 2)
-    × (bodyRecords (spoken Plain e) (0x1a ∷ 0x05 ∷ 0x22 ∷ 0x03 ∷ 0x12 ∷ 0x01 ∷ 0x0b ∷ []) ≡ at (UnsupportedWireType 3 1) 7 3 4 2)
-    × (bodyRecords (spoken Plain e) (0x1a ∷ 0x05 ∷ 0x22 ∷ 0x03 ∷ 0x12 ∷ 0x01 ∷ 0x00 ∷ []) ≡ at (InvalidFieldNumber 0 0) 6 3 4 2)
+    × (bodyRecords (spoken Plain e) (0x1a ∷ 0x06 ∷ 0x22 ∷ 0x04 ∷ 0x12 ∷ 0x02 ∷ 0x0a ∷ 0x05 ∷ [])
+    ≡ at (FieldOverflow 2 5 0) 8 3 4 2)
+    × (bodyRecords (spoken Plain e) (0x1a ∷ 0x05 ∷ 0x22 ∷ 0x03 ∷ 0x12 ∷ 0x01 ∷ 0x0b ∷ [])
+    ≡ at (UnsupportedWireType 3 1) 7 3 4 2)
+    × (bodyRecords (spoken Plain e) (0x1a ∷ 0x05 ∷ 0x22 ∷ 0x03 ∷ 0x12 ∷ 0x01 ∷ 0x00 ∷ [])
+    ≡ at (InvalidFieldNumber 0 0) 6 3 4 2)
 unfolding readUvarint readFrom groupOf isUtf8 run readTag readLen readVarint skipFixed skipValue skipField readValue
     readField walkFrom walkAt roleOf rank ownOf textCount textSpot toDepth overKinds counted spotIn bodyRecords
 rows e =
@@ -123,5 +127,4 @@ unfolding readUvarint readFrom groupOf isUtf8 run readTag readLen readVarint ski
     skipField readValue readField walkFrom walkAt roleOf rank ownOf textCount textSpot toDepth overKinds counted spotIn
     bodyRecords
 rows-groups e =
-    (refl, refl, refl, refl, refl, refl, refl, refl, refl, refl, refl, refl, refl, refl, refl, refl, refl, refl, refl, refl,
-    refl, refl, refl, refl, refl, refl, refl, refl, refl, refl, refl, refl)
+    (refl, refl, refl, refl, refl, refl, refl, refl, refl, refl, refl, refl, refl, refl, refl, refl, refl, refl, refl, refl, refl, refl, refl, refl, refl, refl, refl, refl, refl, refl, refl, refl)

@@ -45,7 +45,8 @@ none-good s =
       fifth = absent-inside s;
     }
 
-set-good : (s : List ℕ) (t : Slots) (slot : ℕ) (p : Place) → SlotsInside s t → PlaceInside s p → SlotsInside s (setPlace t slot p)
+set-good : (s : List ℕ) (t : Slots) (slot : ℕ) (p : Place) → SlotsInside s t → PlaceInside s p
+    → SlotsInside s (setPlace t slot p)
 unfolding setPlace
 set-good s t slot p g h =
     either (eqb slot 1)
@@ -77,7 +78,8 @@ role-good s at f t Topic st g = g
 role-good s at f t MessageId st g = g
 role-good s at f t (Sub k form) st g = g
 
-good-along : (mode : Mode) (k : Kind) (s : List ℕ) (at : ℕ) (t : Slots) → SlotsInside s t → SlotsInside s (slotsAlong k t (walkAt mode s at))
+good-along : (mode : Mode) (k : Kind) (s : List ℕ) (at : ℕ) (t : Slots) → SlotsInside s t
+    → SlotsInside s (slotsAlong k t (walkAt mode s at))
 unfolding withField
 good-along mode k s =
     along mode s (λ (at : ℕ) (w : Fields). (t : Slots) → SlotsInside s t → SlotsInside s (slotsAlong k t w))

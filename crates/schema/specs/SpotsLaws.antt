@@ -111,7 +111,8 @@ text-clean s f n m h =
     either (isUtf8 (between s (f .start) (f .next))) (λ t. simp t) (λ t. clash (let e = simp t at h in cc))
 
 role-clean-by : (mode : Mode) (s : List ℕ) (f : Field) (r : Role) (m : ℕ) → roleCount (counted mode) s f r ≡ Records m
-    → ((j : Kind) (form : Form) (p : List ℕ) (x : ℕ) → r ≡ Sub j form → counted mode j p ≡ Records x → spotIn mode j p ≡ Nowhere)
+    → ((j : Kind) (form : Form) (p : List ℕ) (x : ℕ) → r ≡ Sub j form → counted mode j p ≡ Records x
+    → spotIn mode j p ≡ Nowhere)
     → roleSpot (spotIn mode) s f r ≡ Nowhere
 role-clean-by mode s f Skip m h ih = refl
 role-clean-by mode s f (Number figure) m h ih = refl
@@ -124,11 +125,13 @@ role-clean-by mode s f (Sub k form) m h ih =
     let t = plus-fits (ownOf k) m (counted mode k (between s (f .start) (f .next))) h in
     ap (inside (f .field) (f .start)) (ih k form (between s (f .start) (f .next)) (t .0) refl (t .1))
 
-pub count-clean : (mode : Mode) (k : Kind) (s : List ℕ) (n : ℕ) → counted mode k s ≡ Records n → spotIn mode k s ≡ Nowhere
+pub count-clean : (mode : Mode) (k : Kind) (s : List ℕ) (n : ℕ) → counted mode k s ≡ Records n
+    → spotIn mode k s ≡ Nowhere
 count-clean mode =
     by-rank (λ k. (s : List ℕ) (n : ℕ) → counted mode k s ≡ Records n → spotIn mode k s ≡ Nowhere)
     (λ k ih s n h. spot-along mode k s
-    ∙ along mode s (λ (from : ℕ) (w : Fields). (m : ℕ) → countAlong (counted mode) k s w ≡ Records m → spotAlong (spotIn mode) k s w ≡ Nowhere)
+    ∙ along mode s (λ (from : ℕ) (w : Fields). (m : ℕ) → countAlong (counted mode) k s w ≡ Records m
+    → spotAlong (spotIn mode) k s w ≡ Nowhere)
     (λ from m g. refl)
     (λ from why e m g. clash (cc))
     (λ from f st e rest m g.

@@ -54,7 +54,8 @@ of-part s n type to f (part.Bytes a e) q h =
     ap (readLen s) t ∙ cc
 of-part s n type to f (part.Refused why) q h = clash (cc)
 
-of-value : (mode : Mode) (s : List ℕ) (n type to : ℕ) (f : Field) → step.At f ≡ readValue mode s n type to → f .«wire_type» ≡ 2
+of-value : (mode : Mode) (s : List ℕ) (n type to : ℕ) (f : Field) → step.At f ≡ readValue mode s n type to
+    → f .«wire_type» ≡ 2
     → readLen s (f .«tag_end») ≡ part.Bytes (f .start) (f .next)
 unfolding readValue
 of-value mode s n type to f h w =
@@ -79,7 +80,8 @@ abbrev pub stringCount : ℕ → Part → Counted
 stringCount n (part.Bytes a e) = Records n
 stringCount n (part.Refused why) = Refused why
 
-module _ (mode : Mode) (s : List ℕ) (at : ℕ) (f : Field) (n : ℕ) (met : step.At f ≡ readField mode s at) (len : f .«wire_type» ≡ 2) where
+module _ (mode : Mode) (s : List ℕ) (at : ℕ) (f : Field) (n : ℕ) (met : step.At f ≡ readField mode s at)
+    (len : f .«wire_type» ≡ 2) where
   string-taken : isUtf8 (between s (f .start) (f .next)) ≡ true
       → readString s (f .«tag_end») ≡ part.Bytes (f .start) (f .next)
   unfolding readString
@@ -147,14 +149,16 @@ text-len k m type r n h t =
     (λ u. either (eqb type 0) (λ v. absurd (not-number k m r n t (simp (u, v) at h)))
     (λ v. absurd (not-skip t (simp (u, v) at h))))
 
-role-read : (mode : Mode) (s : List ℕ) (at : ℕ) (f : Field) (n : ℕ) (r : Role) → step.At f ≡ readField mode s at → f .«wire_type» ≡ 2
+role-read : (mode : Mode) (s : List ℕ) (at : ℕ) (f : Field) (n : ℕ) (r : Role) → step.At f ≡ readField mode s at
+    → f .«wire_type» ≡ 2
     → IsText r n → roleCount (counted mode) s f r ≡ stringCount n (readString s (f .«tag_end»))
 role-read mode s at f _ _ met len text = text-read mode s at f 0 met len
 role-read mode s at f _ _ met len topic = text-read mode s at f 1 met len
 
 -- a message of kind k counts each text field that the walk meets as `readString` reads it
 pub field-read : (mode : Mode) (k : Kind) (s : List ℕ) (at : ℕ) (f : Field) (n : ℕ) → step.At f ≡ readField mode s at
-    → IsText (roleOf k (f .field) (f .«wire_type»)) n → fieldCount mode k s f ≡ stringCount n (readString s (f .«tag_end»))
+    → IsText (roleOf k (f .field) (f .«wire_type»)) n
+    → fieldCount mode k s f ≡ stringCount n (readString s (f .«tag_end»))
 unfolding fieldCount
 field-read mode k s at f n met t =
     let r = roleOf k (f .field) (f .«wire_type») in
