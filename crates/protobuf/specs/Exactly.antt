@@ -472,8 +472,11 @@ body-walks mode s es g = complete mode s 0 refl g refl
 
 -- a body is the grammar's exactly where its walk reaches the end, and the fields that the walk finds are the grammar's
 pub exactly : (mode : Mode) (s : List ℕ) (es : List Entry) → Bytes s → Walks mode s 0 es ↔ Body mode s es
-exactly mode s es b = (λ w. subst (Body mode s) (w .entries)
-    (sound mode s (w .fields) 0 b (w .walked)), body-walks mode s es)
+exactly mode s es b = (
+  λ w. subst (Body mode s) (w .entries)
+      (sound mode s (w .fields) 0 b (w .walked)),
+  body-walks mode s es,
+)
 
 -- a body has one meaning
 whole-same : (fs gs : List Field) → whole fs ≡ whole gs → fs ≡ gs

@@ -170,7 +170,7 @@ module _ (s : List ℕ) (b : Bytes s) (go : ℕ → ℕ → ℕ → Skip) (close
       let w = passed-past l to m type x p in
       let y = passed-moves s go moves l to m type x p in
       front s (t .least) (t .most) (t .spells .here) (t .spells .ends) w (past-ends s w (y .0) (y .1))
-          (closed l x n e h)
+      (closed l x n e h)
   on-closed l at n m type to e (skip.Refused why) q p h = clash (cc)
 
   in-closed : (l at n e : ℕ) (r : Tag) → r ≡ readTag s at → skip.Next e ≡ inGroup go l s n r → Closed l n s at e

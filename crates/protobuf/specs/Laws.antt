@@ -184,7 +184,7 @@ pub group-step : (l : ℕ) (s : List ℕ) (at n : ℕ)
 unfolding skipGroup skipFrom
 group-step l s at n =
     same-in s (skipFrom (length s - at) s) (from-moves (length s - at) s) (λ j. skipGroup j s) l at n
-        (readTag s at) refl
+    (readTag s at) refl
     (λ i a b u v. enough (length s - at) (suc (length s - a)) s i a b (omega arith) (omega arith))
 
 pub group-moves : (s : List ℕ) → Moves s (λ j. skipGroup j s)
