@@ -7,6 +7,7 @@ use native.Mathlib.Omega.{arith}
 use lib.ListN.{length, length-append}
 use lib.Seq.{length-sets}
 use lib.Dec.{eqb}
+use Rattle.basis.specs.declared.Mode.{Mode}
 use Rattle.basis.specs.declared.Dialect.{Dialect}
 use Rattle.basis.specs.Cases.{either, clash}
 use Rattle.protobuf.specs.declared.Field.{Field}
@@ -43,20 +44,20 @@ miss f i n w h =
     (λ t. either (eqb n i) (λ u. clash (let k = simp (t, u) at h in cc)) (λ u. simp (t, u)))
     (λ t. simp t)
 
-pub found-here : (s : List ℕ) (at i n : ℕ) (f : Field) → step.At f ≡ readField s at → isBytes 2 f && eqb n i ≡ true → messageAlong i n (walkAt s at) ≡ At (f .start) (f .next)
-found-here s at i n f e h = ap (messageAlong i n) (walk-on s at (step.At f) e) ∙ hit f i n (walkAt s (f .next)) h
+pub found-here : (mode : Mode) (s : List ℕ) (at i n : ℕ) (f : Field) → step.At f ≡ readField mode s at → isBytes 2 f && eqb n i ≡ true → messageAlong i n (walkAt mode s at) ≡ At (f .start) (f .next)
+found-here mode s at i n f e h = ap (messageAlong i n) (walk-on mode s at (step.At f) e) ∙ hit f i n (walkAt mode s (f .next)) h
 
-pub found-later : (s : List ℕ) (at i n m : ℕ) (f : Field) → step.At f ≡ readField s at → isBytes 2 f && eqb n i ≡ false → m ≡ cond (isBytes 2 f) (n + 1) n → messageAlong i n (walkAt s at) ≡ messageAlong i m (walkAt s (f .next))
-found-later s at i n m f e h g = ap (messageAlong i n) (walk-on s at (step.At f) e) ∙ miss f i n (walkAt s (f .next)) h ∙ ap (λ (x : ℕ). messageAlong i x (walkAt s (f .next))) (sym g)
+pub found-later : (mode : Mode) (s : List ℕ) (at i n m : ℕ) (f : Field) → step.At f ≡ readField mode s at → isBytes 2 f && eqb n i ≡ false → m ≡ cond (isBytes 2 f) (n + 1) n → messageAlong i n (walkAt mode s at) ≡ messageAlong i m (walkAt mode s (f .next))
+found-later mode s at i n m f e h g = ap (messageAlong i n) (walk-on mode s at (step.At f) e) ∙ miss f i n (walkAt mode s (f .next)) h ∙ ap (λ (x : ℕ). messageAlong i x (walkAt mode s (f .next))) (sym g)
 
-pub found-end : (s : List ℕ) (at i n : ℕ) → step.End ≡ readField s at → messageAlong i n (walkAt s at) ≡ Count n
-found-end s at i n e = ap (messageAlong i n) (walk-on s at step.End e)
+pub found-end : (mode : Mode) (s : List ℕ) (at i n : ℕ) → step.End ≡ readField mode s at → messageAlong i n (walkAt mode s at) ≡ Count n
+found-end mode s at i n e = ap (messageAlong i n) (walk-on mode s at step.End e)
 
-pub found-refused : (s : List ℕ) (at i n : ℕ) (why : WireError) → step.Refused why ≡ readField s at → messageAlong i n (walkAt s at) ≡ Count n
-found-refused s at i n why e = ap (messageAlong i n) (walk-on s at (step.Refused why) e)
+pub found-refused : (mode : Mode) (s : List ℕ) (at i n : ℕ) (why : WireError) → step.Refused why ≡ readField mode s at → messageAlong i n (walkAt mode s at) ≡ Count n
+found-refused mode s at i n why e = ap (messageAlong i n) (walk-on mode s at (step.Refused why) e)
 
-pub found-past : (s : List ℕ) (at i n : ℕ) → length s ≤ at → messageAlong i n (walkAt s at) ≡ Count n
-found-past s at i n h = ap (messageAlong i n) (walk-end s at h)
+pub found-past : (mode : Mode) (s : List ℕ) (at i n : ℕ) → length s ≤ at → messageAlong i n (walkAt mode s at) ≡ Count n
+found-past mode s at i n h = ap (messageAlong i n) (walk-end mode s at h)
 
 -- ---- writing an id: its length, and its three parts
 pub id-length : (pre p : List ℕ) (a e b f : ℕ) → Fits p a e b f → length (pre ++ idBytes p a e b f) ≡ length pre + (e - a) + (f - b)
@@ -92,14 +93,14 @@ id-put pre p out a e b f o₁ o₂ o₃ i j k h l p₁ p₂ p₃ =
 -- ---- which case it is
 pub refused-body : (pre : List ℕ) (d : Dialect) (s : List ℕ) (i : ℕ) (out : List ℕ) (why : Placed) → acceptOf d s ≡ Wrong why → (Refused why ≡ idAnswer pre d s i out) × (out ≡ idLeft pre d s i out)
 unfolding idAnswer idLeft
-refused-body pre d s i out why e = (ap (answerChecked pre s i out) (sym e), ap (leftChecked pre s i out) (sym e))
+refused-body pre d s i out why e = (ap (answerChecked (d .mode) pre s i out) (sym e), ap (leftChecked (d .mode) pre s i out) (sym e))
 
-pub no-message : (pre : List ℕ) (d : Dialect) (s : List ℕ) (i : ℕ) (out : List ℕ) (n : ℕ) → acceptOf d s ≡ Fine → messageAt s i ≡ Count n → (NoMessage n ≡ idAnswer pre d s i out) × (out ≡ idLeft pre d s i out)
+pub no-message : (pre : List ℕ) (d : Dialect) (s : List ℕ) (i : ℕ) (out : List ℕ) (n : ℕ) → acceptOf d s ≡ Fine → messageAt (d .mode) s i ≡ Count n → (NoMessage n ≡ idAnswer pre d s i out) × (out ≡ idLeft pre d s i out)
 unfolding idAnswer idLeft
 no-message pre d s i out n e f =
-    (ap (answerAt pre s out) (sym f) ∙ ap (answerChecked pre s i out) (sym e), ap (leftAt pre s out) (sym f) ∙ ap (leftChecked pre s i out) (sym e))
+    (ap (answerAt (d .mode) pre s out) (sym f) ∙ ap (answerChecked (d .mode) pre s i out) (sym e), ap (leftAt (d .mode) pre s out) (sym f) ∙ ap (leftChecked (d .mode) pre s i out) (sym e))
 
-pub at-message : (pre : List ℕ) (d : Dialect) (s : List ℕ) (i : ℕ) (out : List ℕ) (a e : ℕ) (r : MessageBytes) (left : List ℕ) → acceptOf d s ≡ Fine → messageAt s i ≡ At a e → (r ≡ answerId pre (between s a e) out (idParts (between s a e))) × (left ≡ leftId pre (between s a e) out (idParts (between s a e))) → (r ≡ idAnswer pre d s i out) × (left ≡ idLeft pre d s i out)
+pub at-message : (pre : List ℕ) (d : Dialect) (s : List ℕ) (i : ℕ) (out : List ℕ) (a e : ℕ) (r : MessageBytes) (left : List ℕ) → acceptOf d s ≡ Fine → messageAt (d .mode) s i ≡ At a e → (r ≡ answerId pre (between s a e) out (idParts (d .mode) (between s a e))) × (left ≡ leftId pre (between s a e) out (idParts (d .mode) (between s a e))) → (r ≡ idAnswer pre d s i out) × (left ≡ idLeft pre d s i out)
 unfolding idAnswer idLeft
 at-message pre d s i out a e r left x f h =
-    (h .0 ∙ ap (answerAt pre s out) (sym f) ∙ ap (answerChecked pre s i out) (sym x), h .1 ∙ ap (leftAt pre s out) (sym f) ∙ ap (leftChecked pre s i out) (sym x))
+    (h .0 ∙ ap (answerAt (d .mode) pre s out) (sym f) ∙ ap (answerChecked (d .mode) pre s i out) (sym x), h .1 ∙ ap (leftAt (d .mode) pre s out) (sym f) ∙ ap (leftChecked (d .mode) pre s i out) (sym x))

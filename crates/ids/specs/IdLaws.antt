@@ -7,6 +7,7 @@ use native.Mathlib.Omega.{arith}
 use lib.ListN.{length, length-append}
 use lib.Dec.{ltb, eqb}
 use borrow.Author.Tests.{ltb-false, eqb-false}
+use Rattle.basis.specs.declared.Mode.{Mode}
 use Rattle.basis.specs.Cases.{either, clash}
 use Rattle.protobuf.specs.Walk.{Fields, walkAt, isBytes, between}
 use Rattle.protobuf.specs.WalkLaws.{between-length, along}
@@ -20,9 +21,9 @@ use Rattle.ids.specs.declared.MessageId.the-variants as id
 use Rattle.ids.specs.Ids.{messageAlong, messageAt, onSeqno, onFrom, idParts, idBytes}
 
 -- a message that is found lies within the body
-along-inside : (s : List ℕ) (i a e : ℕ) (at n : ℕ) → messageAlong i n (walkAt s at) ≡ At a e → (a ≤ e) × (e ≤ length s)
-along-inside s i a e =
-    along s (λ (at : ℕ) (w : Fields). (n : ℕ) → messageAlong i n w ≡ At a e → (a ≤ e) × (e ≤ length s))
+along-inside : (mode : Mode) (s : List ℕ) (i a e : ℕ) (at n : ℕ) → messageAlong i n (walkAt mode s at) ≡ At a e → (a ≤ e) × (e ≤ length s)
+along-inside mode s i a e =
+    along mode s (λ (at : ℕ) (w : Fields). (n : ℕ) → messageAlong i n w ≡ At a e → (a ≤ e) × (e ≤ length s))
     (λ at n h. clash (cc))
     (λ at why r n h. clash (cc))
     (λ at f st r rest n h.
@@ -33,9 +34,9 @@ along-inside s i a e =
     (λ u. rest (n + 1) (simp (t, u) at h)))
     (λ t. rest n (simp t at h)))
 
-pub message-inside : (s : List ℕ) (i a e : ℕ) → messageAt s i ≡ At a e → (a ≤ e) × (e ≤ length s)
+pub message-inside : (mode : Mode) (s : List ℕ) (i a e : ℕ) → messageAt mode s i ≡ At a e → (a ≤ e) × (e ≤ length s)
 unfolding messageAt
-message-inside s i a e h = along-inside s i a e 0 0 h
+message-inside mode s i a e h = along-inside mode s i a e 0 0 h
 
 -- from and seqno lie within their message, and have at most 64 bytes
 pub record Fits (p : List ℕ) (a e b f : ℕ) : Type 0 where
@@ -73,11 +74,11 @@ of-from p a e b f (place.Present x y) r i j h =
       seqno-short = s .4;
     }))
 
-pub id-fits : (p : List ℕ) (a e b f : ℕ) → idParts p ≡ id.Parts a e b f → Fits p a e b f
+pub id-fits : (mode : Mode) (p : List ℕ) (a e b f : ℕ) → idParts mode p ≡ id.Parts a e b f → Fits p a e b f
 unfolding idParts
-id-fits p a e b f h =
-    let g = slots-inside kind.RawMessage p in
-    of-from p a e b f (slotsOf kind.RawMessage p .first) (slotsOf kind.RawMessage p .third) (g .first) (g .third) h
+id-fits mode p a e b f h =
+    let g = slots-inside mode kind.RawMessage p in
+    of-from p a e b f (slotsOf mode kind.RawMessage p .first) (slotsOf mode kind.RawMessage p .third) (g .first) (g .third) h
 
 -- and stand where these fields of the message do
 seqno-there : (x y a e b f : ℕ) (q : Place) → onSeqno x y q ≡ id.Parts a e b f → (x ≡ a) × (y ≡ e)
@@ -95,11 +96,11 @@ from-there a e b f (place.Present x y) r h =
     either (eqb (y - x) 0 || ltb 64 (y - x)) (λ t. clash (let k = simp t at h in cc))
     (λ t. let s = seqno-there x y a e b f r (simp t at h) in (rw (s .0, s .1), s .2))
 
-pub parts-there : (p : List ℕ) (a e b f : ℕ) → idParts p ≡ id.Parts a e b f
-    → (slotsOf kind.RawMessage p .first ≡ place.Present a e) × (slotsOf kind.RawMessage p .third ≡ place.Present b f)
+pub parts-there : (mode : Mode) (p : List ℕ) (a e b f : ℕ) → idParts mode p ≡ id.Parts a e b f
+    → (slotsOf mode kind.RawMessage p .first ≡ place.Present a e) × (slotsOf mode kind.RawMessage p .third ≡ place.Present b f)
 unfolding idParts
-parts-there p a e b f h =
-    from-there a e b f (slotsOf kind.RawMessage p .first) (slotsOf kind.RawMessage p .third) h
+parts-there mode p a e b f h =
+    from-there a e b f (slotsOf mode kind.RawMessage p .first) (slotsOf mode kind.RawMessage p .third) h
 
 -- from and seqno are not empty
 some-seqno : (x y a e b f : ℕ) (q : Place) → onSeqno x y q ≡ id.Parts a e b f → (x ≡ a) × (y ≡ e) × (1 ≤ f - b)
@@ -121,16 +122,16 @@ some-from a e b f (place.Present x y) r h =
     let n = eqb-false (y - x) 0 t in
     (omega (arith, s .0, s .1), s .2)))
 
-pub id-some : (p : List ℕ) (a e b f : ℕ) → idParts p ≡ id.Parts a e b f → (1 ≤ e - a) × (1 ≤ f - b)
+pub id-some : (mode : Mode) (p : List ℕ) (a e b f : ℕ) → idParts mode p ≡ id.Parts a e b f → (1 ≤ e - a) × (1 ≤ f - b)
 unfolding idParts
-id-some p a e b f h = some-from a e b f (slotsOf kind.RawMessage p .first) (slotsOf kind.RawMessage p .third) h
+id-some mode p a e b f h = some-from a e b f (slotsOf mode kind.RawMessage p .first) (slotsOf mode kind.RawMessage p .third) h
 
 -- an id has 2 to 128 bytes
-pub id-size : (p : List ℕ) (a e b f : ℕ) → idParts p ≡ id.Parts a e b f → (2 ≤ length (idBytes p a e b f))
+pub id-size : (mode : Mode) (p : List ℕ) (a e b f : ℕ) → idParts mode p ≡ id.Parts a e b f → (2 ≤ length (idBytes p a e b f))
     × (length (idBytes p a e b f) ≤ 128)
-id-size p a e b f h =
-    let g = id-fits p a e b f h in
-    let m = id-some p a e b f h in
+id-size mode p a e b f h =
+    let g = id-fits mode p a e b f h in
+    let m = id-some mode p a e b f h in
     let n = length-append (between p a e) (between p b f) in
     let x = between-length p a e (g .from .1) in
     let y = between-length p b f (g .seqno .1) in

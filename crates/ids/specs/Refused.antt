@@ -3,6 +3,7 @@ use Prim.Native.Nat.{ℕ}
 use mathlib.Core.Path.{_≡_, refl}
 use mathlib.Core.Bool.{Bool}
 use mathlib.Core.List.{List, [], _∷_, _++_}
+use Rattle.basis.specs.declared.Mode.{Mode}
 use Rattle.basis.specs.declared.Dialect.{Dialect}
 use Rattle.basis.specs.declared.Written.{Written}
 use Rattle.basis.specs.Writing.{answer, written}
@@ -30,21 +31,21 @@ by-id pre p out (id.InvalidFrom n) h = refl
 by-id pre p out id.InvalidSeqno h = refl
 by-id pre p out (id.Parts a e b f) h = refused-bytes (pre ++ idBytes p a e b f) out h
 
-by-place : (pre s out : List ℕ) (m : MessageAt) → (messageTold (answerAt pre s out m) .number ≡ 0 → ⊥)
-    → leftAt pre s out m ≡ out
-by-place pre s out (Count n) h = refl
-by-place pre s out (At a e) h = by-id pre (between s a e) out (idParts (between s a e)) h
+by-place : (mode : Mode) (pre s out : List ℕ) (m : MessageAt) → (messageTold (answerAt mode pre s out m) .number ≡ 0 → ⊥)
+    → leftAt mode pre s out m ≡ out
+by-place mode pre s out (Count n) h = refl
+by-place mode pre s out (At a e) h = by-id pre (between s a e) out (idParts mode (between s a e)) h
 
-by-body : (pre s : List ℕ) (i : ℕ) (out : List ℕ) (c : Checked)
-    → (messageTold (answerChecked pre s i out c) .number ≡ 0 → ⊥) → leftChecked pre s i out c ≡ out
-by-body pre s i out (Wrong why) h = refl
-by-body pre s i out Fine h = by-place pre s out (messageAt s i) h
+by-body : (mode : Mode) (pre s : List ℕ) (i : ℕ) (out : List ℕ) (c : Checked)
+    → (messageTold (answerChecked mode pre s i out c) .number ≡ 0 → ⊥) → leftChecked mode pre s i out c ≡ out
+by-body mode pre s i out (Wrong why) h = refl
+by-body mode pre s i out Fine h = by-place mode pre s out (messageAt mode s i) h
 
 refused-marked : (pre : List ℕ) (d : Dialect) (s : List ℕ) (i : ℕ) (out : List ℕ)
     → (messageTold (idAnswer pre d s i out) .number ≡ 0 → ⊥)
     → idLeft pre d s i out ≡ out
 unfolding idAnswer idLeft
-refused-marked pre d s i out h = by-body pre s i out (acceptOf d s) h
+refused-marked pre d s i out h = by-body (d .mode) pre s i out (acceptOf d s) h
 
 pub refused-id : (d : Dialect) (s : List ℕ) (i : ℕ) (out : List ℕ) → (messageTold (idAnswer [] d s i out) .number ≡ 0 → ⊥)
     → idLeft [] d s i out ≡ out
