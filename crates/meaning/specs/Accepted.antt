@@ -249,7 +249,7 @@ prune-means mode s b a =
 prune-written : (mode : Mode) {s : List ℕ} {v : ControlPrune} → IsPrune mode s v → Accepted mode kind.ControlPrune s
 prune-written mode (is-prune {s = s} {es = es} g t1 p2) =
     written mode kind.ControlPrune s es g (prune-good mode es t1
-        (accepted-subs mode kind.PeerInfo (peer-info-accepted mode) p2))
+    (accepted-subs mode kind.PeerInfo (peer-info-accepted mode) p2))
 
 pub prune-accepted : (mode : Mode) (s : List ℕ) → Some (IsPrune mode) s → Accepted mode kind.ControlPrune s
 prune-accepted mode s x = prune-written mode (x .means)
@@ -388,7 +388,8 @@ meant mode kind.Topic = λ s b a. let r = read mode kind.Topic s b a in record {
 meant mode (kind.ControlMessage e) = control-means (spoken mode e)
 meant mode kind.ControlIHave = ihave-means mode
 meant mode kind.ControlIWant = iwant-means mode
-meant mode kind.MessageId = λ s b a. let r = read mode kind.MessageId s b a in record { value = r .entries; means = r .body }
+meant mode kind.MessageId = λ s b a. let r = read mode kind.MessageId s b a in
+    record { value = r .entries; means = r .body }
 meant mode kind.ControlGraft = graft-means mode
 meant mode kind.ControlPrune = prune-means mode
 meant mode kind.PeerInfo = peer-info-means mode

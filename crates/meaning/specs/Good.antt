@@ -164,8 +164,7 @@ good-along mode k s (f ∷ fs) g =
 pub walked-good : (mode : Mode) (k : Kind) (s : List ℕ) (fs : List Field) → fieldsOf mode s ≡ whole fs
     → Accepted mode k s → Good mode k (entriesOf s fs)
 walked-good mode k s fs w a = along-good mode k s fs (a .records) (ap (countAlong (counted mode) k s) (sym w)
-    ∙ sym (count-along mode k s)
-    ∙ a .counts)
+    ∙ sym (count-along mode k s) ∙ a .counts)
 
 pub good-walked : (mode : Mode) (k : Kind) (s : List ℕ) (fs : List Field) → fieldsOf mode s ≡ whole fs
     → Good mode k (entriesOf s fs) → Accepted mode k s
@@ -174,8 +173,7 @@ good-walked mode k s fs w g = let a = good-along mode k s fs g in
 
 -- what is accepted has a walk that reaches the end
 ends : (mode : Mode) (k : Kind) (s : List ℕ) (w : Fields) (n : ℕ) → countAlong (counted mode) k s w ≡ Records n
-    → (fs : List Field)
-    × (w ≡ whole fs)
+    → (fs : List Field) × (w ≡ whole fs)
 ends mode k s end n h = ([], refl)
 ends mode k s (refused why) n h = clash (cc)
 ends mode k s (f then w) n h =
