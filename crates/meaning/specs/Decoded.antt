@@ -101,7 +101,8 @@ own-rpc : (d : Dialect) → ownOf (kind.Rpc (d .edition)) ≡ 0
 unfolding ownOf
 own-rpc d = refl
 
-pub counted-records : (d : Dialect) (s : List ℕ) (n : ℕ) (x : Rpc) → counted (d .mode) (kind.Rpc (d .edition)) s ≡ count.Records n
+pub counted-records : (d : Dialect) (s : List ℕ) (n : ℕ) (x : Rpc)
+    → counted (d .mode) (kind.Rpc (d .edition)) s ≡ count.Records n
     → IsRpc d s x → n ≡ recordsIn x
 counted-records d s n x e i =
     let a = rows-length (d .mode) (kind.Rpc (d .edition)) 0 s n e in let b = rpc-records i in omega (arith, own-rpc d)
@@ -112,13 +113,15 @@ record Counts (d : Dialect) (s : List ℕ) (n : ℕ) : Type 0 where
   means : IsRpc d s rpc
   all : recordsIn rpc ≡ n
 
-counts : (d : Dialect) (s : List ℕ) (n : ℕ) → Bytes s → counted (d .mode) (kind.Rpc (d .edition)) s ≡ count.Records n → Counts d s n
+counts : (d : Dialect) (s : List ℕ) (n : ℕ) → Bytes s → counted (d .mode) (kind.Rpc (d .edition)) s ≡ count.Records n
+    → Counts d s n
 counts d s n b e =
     let x = rpc-means d s b (record { records = n; counts = e }) in
     record { rpc = x .value; means = x .means; all = sym (counted-records d s n (x .value) e (x .means)) }
 
 -- and back
-pub meant-count : {d : Dialect} {s : List ℕ} {x : Rpc} → IsRpc d s x → counted (d .mode) (kind.Rpc (d .edition)) s ≡ count.Records (recordsIn x)
+pub meant-count : {d : Dialect} {s : List ℕ} {x : Rpc} → IsRpc d s x
+    → counted (d .mode) (kind.Rpc (d .edition)) s ≡ count.Records (recordsIn x)
 meant-count {d} {s} {x} i =
     let a = rpc-accepted d s (record { value = x; means = i }) in
     a .counts ∙ ap count.Records (counted-records d s (a .records) x (a .counts) i)
@@ -128,10 +131,12 @@ present-cond : {A : Type 0} (c : Bool) (x : A) → present (cond c (some x) none
 present-cond true x = refl
 present-cond false x = refl
 
-control-told : {d : Dialect} {s : List ℕ} {x : Rpc} → IsRpc d s x → cond (hasControl (d .mode) s) 1 0 ≡ present (x .control)
+control-told : {d : Dialect} {s : List ℕ} {x : Rpc} → IsRpc d s x
+    → cond (hasControl (d .mode) s) 1 0 ≡ present (x .control)
 unfolding readBack
 control-told {d} {s} {x} i =
-    sym (present-cond (hasControl (d .mode) s) (gather s (rowsOf (d .mode) (kind.Rpc (d .edition)) 0 s) nothing .control))
+    sym (present-cond (hasControl (d .mode) s) (gather s
+    (rowsOf (d .mode) (kind.Rpc (d .edition)) 0 s) nothing .control))
     ∙ ap (λ (y : Rpc). present (y .control)) (read-back i)
 
 -- ---- a body is refused exactly where the scope refuses it
@@ -225,8 +230,10 @@ plus-early : (n : ℕ) (r : Counted) (why : WireError) → plus n r ≡ count.Re
 plus-early n (count.Records m) why h = clash (cc)
 plus-early n (count.Refused w) why h = cc
 
-role-early : (mode : Mode) (s : List ℕ) (f : Field) (r : Role) (why : WireError) → roleCount (counted mode) s f r ≡ count.Refused why
-    → ((j : Kind) (form : Form) (p : List ℕ) → r ≡ Sub j form → counted mode j p ≡ count.Refused why → OfBody mode (refusalNumber why))
+role-early : (mode : Mode) (s : List ℕ) (f : Field) (r : Role) (why : WireError)
+    → roleCount (counted mode) s f r ≡ count.Refused why
+    → ((j : Kind) (form : Form) (p : List ℕ) → r ≡ Sub j form → counted mode j p ≡ count.Refused why
+    → OfBody mode (refusalNumber why))
     → OfBody mode (refusalNumber why)
 role-early mode s f Skip why h ih = clash (cc)
 role-early mode s f (Number figure) why h ih = clash (cc)
@@ -249,7 +256,8 @@ first-early : (mode : Mode) (s : List ℕ) (k : Kind) (f : Field) (w : Fields) (
     → roleCount (counted mode) s f (roleOf k (f .field) (f .«wire_type»)) ≡ r
     → andThen r (countAlong (counted mode) k s w) ≡ count.Refused why
     → (countAlong (counted mode) k s w ≡ count.Refused why → OfBody mode (refusalNumber why))
-    → ((j : Kind) (p : List ℕ) → rank j < rank k → counted mode j p ≡ count.Refused why → OfBody mode (refusalNumber why))
+    → ((j : Kind) (p : List ℕ) → rank j < rank k → counted mode j p ≡ count.Refused why
+    → OfBody mode (refusalNumber why))
     → OfBody mode (refusalNumber why)
 first-early mode s k f w why (count.Records n) q g rest ih = rest (plus-early n (countAlong (counted mode) k s w) why g)
 first-early mode s k f w why (count.Refused v) q g rest ih =
@@ -259,7 +267,8 @@ first-early mode s k f w why (count.Refused v) q g rest ih =
 
 then-early : (mode : Mode) (s : List ℕ) (k : Kind) (w : Fields) (why : WireError) → Ending mode w
     → countAlong (counted mode) k s w ≡ count.Refused why
-    → ((j : Kind) (p : List ℕ) → rank j < rank k → counted mode j p ≡ count.Refused why → OfBody mode (refusalNumber why))
+    → ((j : Kind) (p : List ℕ) → rank j < rank k → counted mode j p ≡ count.Refused why
+    → OfBody mode (refusalNumber why))
     → OfBody mode (refusalNumber why)
 then-early mode s k _ why at-end h ih = clash (cc)
 then-early mode s k _ why (early {why = w} e) h ih = let q : w ≡ why = cc in rw (← q) (field-body e)
@@ -268,15 +277,20 @@ then-early mode s k _ why (after {f = f} {w = w} x) h ih =
     (λ g. then-early mode s k w why x g ih) ih
 
 ending : (mode : Mode) (s : List ℕ) → Ending mode (fieldsOf mode s)
-ending mode s = along mode s (λ (at : ℕ) (w : Fields). Ending mode w) (λ at. at-end) (λ at why e. early (field-early mode s at why e))
+ending mode s = along mode s (λ (at : ℕ) (w : Fields). Ending mode w) (λ at. at-end)
+    (λ at why e. early (field-early mode s at why e))
     (λ at f st e r. after r) 0
 
-early-all : (mode : Mode) (k : Kind) (s : List ℕ) (why : WireError) → counted mode k s ≡ count.Refused why → OfBody mode (refusalNumber why)
+early-all : (mode : Mode) (k : Kind) (s : List ℕ) (why : WireError) → counted mode k s ≡ count.Refused why
+    → OfBody mode (refusalNumber why)
 early-all mode =
-    by-rank (λ k. (s : List ℕ) (why : WireError) → counted mode k s ≡ count.Refused why → OfBody mode (refusalNumber why))
-    (λ k ih s why h. then-early mode s k (fieldsOf mode s) why (ending mode s) (sym (count-along mode k s) ∙ h) (λ j p q z. ih j q p why z))
+    by-rank (λ k. (s : List ℕ) (why : WireError) → counted mode k s ≡ count.Refused why
+    → OfBody mode (refusalNumber why))
+    (λ k ih s why h. then-early mode s k (fieldsOf mode s) why (ending mode s) (sym (count-along mode k s) ∙ h)
+    (λ j p q z. ih j q p why z))
 
-pub counted-early : (d : Dialect) (s : List ℕ) (why : WireError) → counted (d .mode) (kind.Rpc (d .edition)) s ≡ count.Refused why
+pub counted-early : (d : Dialect) (s : List ℕ) (why : WireError)
+    → counted (d .mode) (kind.Rpc (d .edition)) s ≡ count.Refused why
     → OfBody (d .mode) (refusalNumber why)
 counted-early d s why h = early-all (d .mode) (kind.Rpc (d .edition)) s why h
 
@@ -370,11 +384,13 @@ told-records (Records m b) n c e = (
   ap (λ (k : ℕ). Records k b) (ap (λ (t : Told). t .first) e),
   ap (λ (t : Told). t .second) e,
 )
-told-records (Refused r) n c e = let z = wire-range (r .why) .0 in absurd (omega (arith, ap (λ (t : Told). t .number) e))
+told-records (Refused r) n c e = let z = wire-range (r .why) .0 in absurd
+    (omega (arith, ap (λ (t : Told). t .number) e))
 told-records (Room m) n c e = absurd (omega (arith, ap (λ (t : Told). t .number) e))
 
 gate-reads : (d : Dialect) (s : List ℕ) (room : ℕ) (r : Tested) (n : ℕ) (b : Bool) → Gate d s r
-    → onCount room (hasControl (d .mode) s) r ≡ Records n b → (counted (d .mode) (kind.Rpc (d .edition)) s ≡ count.Records n) × (n ≤ room)
+    → onCount room (hasControl (d .mode) s) r ≡ Records n b
+    → (counted (d .mode) (kind.Rpc (d .edition)) s ≡ count.Records n) × (n ≤ room)
     × (b ≡ hasControl (d .mode) s)
 gate-reads d s room _ n b (large h) e = clash (cc)
 gate-reads d s room _ n b (bad h why q) e = clash (cc)
@@ -401,13 +417,16 @@ unfolding decodeTable
 table-means d s t n c x e i =
     let k = told-records (decodeAnswer d s (length t)) n c e in
     let g = answer-reads d s (length t) n (k .0) (k .1) in
-    let l : length (rowsOf (d .mode) (kind.Rpc (d .edition)) 0 s) ≡ n = rows-length (d .mode) (kind.Rpc (d .edition)) 0 s n (g .0) ∙ omega (arith, own-rpc d) in
+    let l : length (rowsOf (d .mode) (kind.Rpc (d .edition)) 0 s)
+    ≡ n = rows-length (d .mode) (kind.Rpc (d .edition)) 0 s n (g .0) ∙ omega (arith, own-rpc d) in
     let room : length (rowsOf (d .mode) (kind.Rpc (d .edition)) 0 s) * 20 ≤ length t = omega (arith, g .1) in
     let rows : rowsIn (leaves d s t (decodeAnswer d s (length t))) 0 n ≡ rowsOf (d .mode) (kind.Rpc (d .edition)) 0 s =
     ap (λ (r : Decoded). rowsIn (leaves d s t r) 0 n) (k .1)
     ∙ ap (rowsIn (sets t 0 (wordsOfAll (rowsOf (d .mode) (kind.Rpc (d .edition)) 0 s))) 0) (sym l)
-    ∙ table-back t (rowsOf (d .mode) (kind.Rpc (d .edition)) 0 s) (all-records (d .mode) (kind.Rpc (d .edition)) 0 s) room in
-    let control : eqb c 1 ≡ hasControl (d .mode) s = ap (λ (j : ℕ). eqb j 1) (sym (k .2)) ∙ control-read (k .0) ∙ g .2 in
+    ∙ table-back t (rowsOf (d .mode) (kind.Rpc (d .edition)) 0 s)
+    (all-records (d .mode) (kind.Rpc (d .edition)) 0 s) room in
+    let control : eqb c 1 ≡ hasControl (d .mode) s = ap (λ (j : ℕ). eqb j 1) (sym (k .2)) ∙ control-read (k .0)
+    ∙ g .2 in
     ap₂ (readBack s) rows control ∙ read-back i
 
 -- and only those records were written: the words after them are as they were
@@ -419,7 +438,8 @@ table-rest d s t n c e =
     let g = answer-reads d s (length t) n (k .0) (k .1) in
     let ws = wordsOfAll (rowsOf (d .mode) (kind.Rpc (d .edition)) 0 s) in
     let l : length ws ≡ n * 20 =
-    all-length (rowsOf (d .mode) (kind.Rpc (d .edition)) 0 s) ∙ omega (arith, own-rpc d, rows-length (d .mode) (kind.Rpc (d .edition)) 0 s n (g .0)) in
+    all-length (rowsOf (d .mode) (kind.Rpc (d .edition)) 0 s)
+    ∙ omega (arith, own-rpc d, rows-length (d .mode) (kind.Rpc (d .edition)) 0 s n (g .0)) in
     let z : 0 + length ws ≡ n * 20 = omega arith in
     let left : leaves d s t (decodeAnswer d s (length t)) ≡ sets t 0 ws = ap (leaves d s t) (k .1) in (
       ap length left ∙ length-sets t 0 ws,
@@ -430,7 +450,8 @@ table-rest d s t n c e =
 -- ---- refusals; that one leaves the table as it was is `refused-decode` of message
 -- 10 is given exactly to a body above 65,536 bytes, with its length
 large-gate : (d : Dialect) (s : List ℕ) (room n : ℕ) (r : Tested) → Gate d s r
-    → decodedTold (onCount room (hasControl (d .mode) s) r) ≡ told too-large (n ∷ []) → (n ≡ length s) × (65536 < length s)
+    → decodedTold (onCount room (hasControl (d .mode) s) r) ≡ told too-large (n ∷ []) → (n ≡ length s)
+    × (65536 < length s)
 large-gate d s room n _ (large h) e = (sym (ap (λ (t : Told). t .first) e), h)
 large-gate d s room n _ (bad h why q) e = let l = body-bound (counted-early d s why q) in
     absurd (omega (arith, ap (λ (t : Told). t .number) e))
@@ -457,7 +478,8 @@ pub record Wrong (d : Dialect) (s : List ℕ) : Type 0 where
   pub meaningless : (x : Rpc) → IsRpc d s x → ⊥
 
 pub wrong-exactly : (d : Dialect) (s : List ℕ) (words : ℕ) → Bytes s
-    → ((0 < decodedTold (decodeAnswer d s words) .number) × OfBody (d .mode) (decodedTold (decodeAnswer d s words) .number))
+    → ((0 < decodedTold (decodeAnswer d s words) .number)
+    × OfBody (d .mode) (decodedTold (decodeAnswer d s words) .number))
     ↔ Wrong d s
 wrong-exactly d s words b = (λ p. forth (decodes d s words b) (p .0) (p .1), λ w. back w (decodes d s words b))
   where

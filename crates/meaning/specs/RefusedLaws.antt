@@ -125,7 +125,8 @@ unfolding payloadOf
 bytes-payload s f w = let n : eqb (f .«wire_type») 0 ≡ false = ne-eqb (f .«wire_type») 0 (λ z. omega arith) in
     simp (n, eq-eqb (f .«wire_type») 2 w)
 
-other-fine : (mode : Mode) (k : Kind) (n : ℕ) (s : List ℕ) (f : Field) → eqb (f .«wire_type») 2 ≡ false → Fine mode k n (payloadOf s f)
+other-fine : (mode : Mode) (k : Kind) (n : ℕ) (s : List ℕ) (f : Field) → eqb (f .«wire_type») 2 ≡ false
+    → Fine mode k n (payloadOf s f)
 unfolding payloadOf
 other-fine mode k n s f t2 =
     either (eqb (f .«wire_type») 0) (λ t0. simp t0 tt)
@@ -225,7 +226,8 @@ record Delimited (s : List ℕ) (at : ℕ) (f : Field) : Type 0 where
   tag-place : f .«tag_end» ≡ at + length (tag (f .field) 2)
   start-place : f .start ≡ at + length (tag (f .field) 2) + length (uvarint (length (valueIn s f)))
 
-delimited : (mode : Mode) (s : List ℕ) (at : ℕ) (f : Field) → Stood mode s at f → Stands s at f → f .«wire_type» ≡ 2 → Delimited s at f
+delimited : (mode : Mode) (s : List ℕ) (at : ℕ) (f : Field) → Stood mode s at f → Stands s at f → f .«wire_type» ≡ 2
+    → Delimited s at f
 unfolding tag bytesField
 delimited mode s at f t st w =
     let d = valueIn s f in
@@ -257,7 +259,8 @@ plus-refused : (n : ℕ) (r : Counted) (why : WireError) → plus n r ≡ count.
 plus-refused n (count.Records m) why h = clash (cc)
 plus-refused n (count.Refused w) why h = cc
 
-text-refuses : (mode : Mode) (k : Kind) (s : List ℕ) (at : ℕ) (f : Field) (n m : ℕ) (why : WireError) (r : Role) (x : Spot)
+text-refuses : (mode : Mode) (k : Kind) (s : List ℕ) (at : ℕ) (f : Field) (n m : ℕ) (why : WireError) (r : Role)
+    (x : Spot)
     → Stood mode s at f → Stands s at f → RoleAt k f ≡ r → IsText r m → f .«wire_type» ≡ 2
     → textCount s f n ≡ count.Refused why → Refuses mode k s at why (orElse (textSpot s f) x)
 unfolding textCount textSpot
@@ -295,7 +298,8 @@ sub-refuses mode k j form s at f why x t st q w i =
       path = f .field ∷ i .path;
       offset = f .start + i .offset;
       is = subst (λ (l : List ℕ). RefusedAt mode k at l (f .field ∷ i .path) (f .start + i .offset) why) (sym (g .here))
-          (subst (λ (p : ℕ). RefusedAt mode k at (bytesField (f .field) d ++ drop (f .next) s) (f .field ∷ i .path) p why)
+          (subst (λ (p : ℕ). RefusedAt mode k at (bytesField (f .field) d ++ drop (f .next) s)
+          (f .field ∷ i .path) p why)
           (sym place) (inside d (drop (f .next) s) (t .least) (t .most) (g .small) role (i .is)));
       told = told-by (spotOf why) (spotIn mode j d) (placeAt (i .offset) (i .path))
           (λ y. orElse (enclosed (f .field) (f .start) y) x) (i .told)
@@ -305,7 +309,8 @@ sub-refuses mode k j form s at f why x t st q w i =
     }
 
 -- a field that is refused
-role-refuses : (mode : Mode) (k : Kind) (s : List ℕ) (at : ℕ) (f : Field) (why : WireError) (r : Role) (x : Spot) → AreBytes s
+role-refuses : (mode : Mode) (k : Kind) (s : List ℕ) (at : ℕ) (f : Field) (why : WireError) (r : Role) (x : Spot)
+    → AreBytes s
     → Stood mode s at f → Stands s at f → RoleAt k f ≡ r → roleCount (counted mode) s f r ≡ count.Refused why
     → ((j : Kind) (d : List ℕ) → rank j < rank k → AreBytes d → counted mode j d ≡ count.Refused why
     → Refuses mode j d 0 why (spotIn mode j d))
@@ -328,7 +333,8 @@ role-refuses mode k s at f why (Sub j form) x b t st q h ih =
     (plus-refused (ownOf j) (counted mode j (valueIn s f)) why h))
 
 -- a field without refusal, before what is refused
-later-refuses : (mode : Mode) (k : Kind) (s : List ℕ) (at : ℕ) (f : Field) (why : WireError) (m : ℕ) (x : Spot) → AreBytes s
+later-refuses : (mode : Mode) (k : Kind) (s : List ℕ) (at : ℕ) (f : Field) (why : WireError) (m : ℕ) (x : Spot)
+    → AreBytes s
     → Stood mode s at f → Stands s at f → roleCount (counted mode) s f (RoleAt k f) ≡ count.Records m
     → Refuses mode k s (f .next) why x → Refuses mode k s at why (orElse (roleSpot (spotIn mode) s f (RoleAt k f)) x)
 unfolding tag
@@ -336,7 +342,8 @@ later-refuses mode k s at f why m x b t st h i =
     let u = uvarint (f .field * 8 + f .«wire_type») in
     let fine = counts-fine mode k s f m b h in
     let there : RefusedAt mode k (at + length u + length (t .bytes-of)) (drop (f .next) s) (i .path) (i .offset) why =
-    subst (λ (p : ℕ). RefusedAt mode k p (drop (f .next) s) (i .path) (i .offset) why) (field-next mode s at f t st) (i .is) in
+    subst (λ (p : ℕ). RefusedAt mode k p (drop (f .next) s) (i .path) (i .offset) why) (field-next mode s at f t st)
+    (i .is) in
     record {
       path = i .path;
       offset = i .offset;
@@ -345,14 +352,16 @@ later-refuses mode k s at f why m x b t st h i =
       told = ap (λ (y : Spot). placedAs (spotOf why) (orElse y x)) (role-clean mode s f (RoleAt k f) m h) ∙ i .told;
     }
 
-field-refuses : (mode : Mode) (k : Kind) (s : List ℕ) (at : ℕ) (f : Field) (why : WireError) (c : Counted) → AreBytes s → Stood mode s at f
+field-refuses : (mode : Mode) (k : Kind) (s : List ℕ) (at : ℕ) (f : Field) (why : WireError) (c : Counted) → AreBytes s
+    → Stood mode s at f
     → Stands s at f → roleCount (counted mode) s f (RoleAt k f) ≡ c
     → andThen c (countAlong (counted mode) k s (walkAt mode s (f .next))) ≡ count.Refused why
     → (countAlong (counted mode) k s (walkAt mode s (f .next)) ≡ count.Refused why
     → Refuses mode k s (f .next) why (spotAlong (spotIn mode) k s (walkAt mode s (f .next))))
     → ((j : Kind) (d : List ℕ) → rank j < rank k → AreBytes d → counted mode j d ≡ count.Refused why
     → Refuses mode j d 0 why (spotIn mode j d))
-    → Refuses mode k s at why (orElse (roleSpot (spotIn mode) s f (RoleAt k f)) (spotAlong (spotIn mode) k s (walkAt mode s (f .next))))
+    → Refuses mode k s at why (orElse (roleSpot (spotIn mode) s f (RoleAt k f))
+    (spotAlong (spotIn mode) k s (walkAt mode s (f .next))))
 field-refuses mode k s at f why (count.Records m) b t st q h rest ih =
     later-refuses mode k s at f why m (spotAlong (spotIn mode) k s (walkAt mode s (f .next))) b t st q
     (rest (plus-refused m (countAlong (counted mode) k s (walkAt mode s (f .next))) why h))
@@ -361,11 +370,18 @@ field-refuses mode k s at f why (count.Refused w) b t st q h rest ih =
     role-refuses mode k s at f why (RoleAt k f) (spotAlong (spotIn mode) k s (walkAt mode s (f .next))) b t st refl
     (q ∙ ap count.Refused e) ih
 
-wire-refuses : (mode : Mode) (k : Kind) (s : List ℕ) (at : ℕ) (why : WireError) → AreBytes s → step.Refused why ≡ readField mode s at
+wire-refuses : (mode : Mode) (k : Kind) (s : List ℕ) (at : ℕ) (why : WireError) → AreBytes s
+    → step.Refused why ≡ readField mode s at
     → Refuses mode k s at why (spotOf why)
 wire-refuses mode k s at why b e =
     let t = is-fault mode s at why b e in
-    record { path = []; offset = t .place; is = wire (t .fault); told = told-own (spotOf why) (spot-at (t .place)) (t .spot-at) }
+    record {
+      path = [];
+      offset = t .place;
+      is = wire (t .fault);
+      told = told-own (spotOf why) (spot-at (t .place))
+          (t .spot-at);
+    }
 
 -- a message that is refused has a first refusal
 refuses : (mode : Mode) (k : Kind) (s : List ℕ) (why : WireError) → AreBytes s → counted mode k s ≡ count.Refused why
@@ -381,7 +397,8 @@ refuses mode =
     subst (λ (a : WireError). Refuses mode k s at why (spotOf a)) (sym z)
     (wire-refuses mode k s at why b (ap step.Refused (sym z) ∙ e)))
     (λ at f st e rest g.
-    field-refuses mode k s at f why (roleCount (counted mode) s f (RoleAt k f)) b (field-stood mode s at f b e) st refl g rest
+    field-refuses mode k s at f why (roleCount (counted mode) s f (RoleAt k f)) b
+    (field-stood mode s at f b e) st refl g rest
     (λ j d l bd q. ih j l d why bd q))
     0 (sym (count-along mode k s) ∙ h)))
 
@@ -429,7 +446,8 @@ stands-at mode s at n d rest l m z h =
     let pay = payload-inverts s f d (ap (λ (e : Entry). e .payload) (t .entry)) in
     let st = field-stands mode s at f (t .read) in
     let x = field-ends s at n 2 (u ++ d) rest f st h1 (t .left) in
-    let g : f .next - f .start ≡ length d = sym (between-length s (f .start) (f .next) (st .within)) ∙ ap length (pay .1) in
+    let g : f .next - f .start ≡ length d = sym (between-length s (f .start) (f .next) (st .within))
+    ∙ ap length (pay .1) in
     record {
       f = f;
       read = t .read;
@@ -458,7 +476,8 @@ unfolding entryOf
 entry-is s f n p e = (ap (λ (x : Entry). x .field) e, ap (λ (x : Entry). x .payload) e)
 
 -- what is told of a message from a place on
-record Tells (mode : Mode) (k : Kind) (s : List ℕ) (at : ℕ) (path : List ℕ) (offset : ℕ) (why : WireError) : Type 0 where
+record Tells (mode : Mode) (k : Kind) (s : List ℕ) (at : ℕ) (path : List ℕ) (offset : ℕ)
+    (why : WireError) : Type 0 where
   counts : countAlong (counted mode) k s (walkAt mode s at) ≡ count.Refused why
   spots : placedAs (spotOf why) (spotAlong (spotIn mode) k s (walkAt mode s at)) ≡ toldAt why offset path
 
@@ -475,11 +494,13 @@ tells-field mode k s at f path offset why e c p =
       spots = ap (λ (x : Fields). placedAs (spotOf why) (spotAlong (spotIn mode) k s x)) w
           ∙ told-by (spotOf why) (roleSpot (spotIn mode) s f (RoleAt k f)) (placeAt offset path)
           (λ x. orElse x (spotAlong (spotIn mode) k s (walkAt mode s (f .next)))) p
-          ∙ ap (placedAs (spotOf why)) (place-first offset path (spotAlong (spotIn mode) k s (walkAt mode s (f .next))));
+          ∙ ap (placedAs (spotOf why)) (place-first offset path
+          (spotAlong (spotIn mode) k s (walkAt mode s (f .next))));
     }
 
 -- by a later one
-tells-later : (mode : Mode) (k : Kind) (s : List ℕ) (at : ℕ) (f : Field) (path : List ℕ) (offset : ℕ) (why : WireError) (m : ℕ)
+tells-later : (mode : Mode) (k : Kind) (s : List ℕ) (at : ℕ) (f : Field) (path : List ℕ) (offset : ℕ) (why : WireError)
+    (m : ℕ)
     → step.At f ≡ readField mode s at → roleCount (counted mode) s f (RoleAt k f) ≡ count.Records m
     → Tells mode k s (f .next) path offset why → Tells mode k s at path offset why
 tells-later mode k s at f path offset why m e c t =
@@ -510,23 +531,27 @@ tells {mode} {k} {base} s (text {n = n} {m = m} d rest l u z i never) h =
     tells-field mode k s base (t .f) [] (base + length (tag n 2)) (InvalidUtf8 (base + length (tag n 2))) (t .read)
     (q .0 ∙ ap (λ (p : ℕ). count.Refused (InvalidUtf8 p)) (t .tag-place))
     (q .1 ∙ ap (λ (p : ℕ). placeAt p []) (t .tag-place))
-tells {mode} {k} {base} s (inside {j = j} {form = form} {n = n} {offset = offset} {path = path} {why = why} d rest l u z role i) h =
+tells {mode} {k} {base} s
+    (inside {j = j} {form = form} {n = n} {offset = offset} {path = path} {why = why} d rest l u z role i) h =
     let t = stands-at mode s base n d rest l u z h in
     let f = t .f in
     let here : RoleAt k f ≡ Sub j form = ap₂ (roleOf k) (t .number-of) (t .type-of) ∙ role in
     let inner = tells d i refl in
-    let c : counted mode j (valueIn s f) ≡ count.Refused why = ap (counted mode j) (t .value-of) ∙ count-along mode j d ∙ inner .counts in
+    let c : counted mode j (valueIn s f) ≡ count.Refused why = ap (counted mode j) (t .value-of) ∙ count-along mode j d
+    ∙ inner .counts in
     let p : placedAs (spotOf why) (spotIn mode j (valueIn s f)) ≡ toldAt why offset path =
     ap (placedAs (spotOf why)) (ap (spotIn mode j) (t .value-of) ∙ spot-along mode j d) ∙ inner .spots in
     let place : f .start + offset ≡ base + length (tag n 2) + length (uvarint (length d)) + offset =
     ap (λ (x : ℕ). x + offset) (t .start-place) in
-    tells-field mode k s base f (n ∷ path) (base + length (tag n 2) + length (uvarint (length d)) + offset) why (t .read)
+    tells-field mode k s base f (n ∷ path) (base + length (tag n 2) + length (uvarint (length d)) + offset) why
+    (t .read)
     (ap (roleCount (counted mode) s f) here ∙ ap (plus (ownOf j)) c)
     (ap (λ (r : Role). placedAs (spotOf why) (roleSpot (spotIn mode) s f r)) here
     ∙ told-by (spotOf why) (spotIn mode j (valueIn s f)) (placeAt offset path) (enclosed (f .field) (f .start)) p
     ∙ ap (placedAs (spotOf why)) (place-inside (f .field) (f .start) offset path
     ∙ ap₂ (λ (x y : ℕ). placeAt x (y ∷ path)) place (t .number-of)))
-tells {mode} {k} {base} s (later {n = n} {type = type} {offset = offset} {path = path} {v = v} {p = p} {why = why} rest l u x fine i) h =
+tells {mode} {k} {base} s
+    (later {n = n} {type = type} {offset = offset} {path = path} {v = v} {p = p} {why = why} rest l u x fine i) h =
     let t = found-at mode s base n type v rest p l u x h in
     let f = t .f in
     let is = entry-is s f n p (t .entry) in
@@ -549,8 +574,7 @@ pub record First (mode : Mode) (k : Kind) (s : List ℕ) (why : WireError) (spot
 pub first-counts : {mode : Mode} {k : Kind} {s : List ℕ} {why : WireError} {spot : Spot} → First mode k s why spot
     → (counted mode k s ≡ count.Refused why) × (placedAs (spotOf why) (spotIn mode k s) ≡ spot)
 first-counts {mode} {k} {s} {why} i =
-    let t = tells s (i .is) refl in
-    (
+    let t = tells s (i .is) refl in (
       count-along mode k s ∙ t .counts,
       ap (placedAs (spotOf why)) (spot-along mode k s) ∙ t .spots ∙ sym (i .told),
     )
@@ -604,9 +628,11 @@ refused-early (later rest l u x fine i) = refused-early i
 -- a way through submessages
 data Leads : Kind → List ℕ → Type 0 where
   no-further : {k : Kind} → Leads k []
-  through : {k j : Kind} {form : Form} {n : ℕ} {path : List ℕ} → roleOf k n 2 ≡ Sub j form → Leads j path → Leads k (n ∷ path)
+  through : {k j : Kind} {form : Form} {n : ℕ} {path : List ℕ} → roleOf k n 2 ≡ Sub j form → Leads j path
+      → Leads k (n ∷ path)
 
-leads : {mode : Mode} {k : Kind} {base offset : ℕ} {s path : List ℕ} {why : WireError} → RefusedAt mode k base s path offset why → Leads k path
+leads : {mode : Mode} {k : Kind} {base offset : ℕ} {s path : List ℕ} {why : WireError}
+    → RefusedAt mode k base s path offset why → Leads k path
 leads (wire f) = no-further
 leads (text d rest l u z i never) = no-further
 leads (inside d rest l u z role i) = through role (leads i)
@@ -803,7 +829,8 @@ one-refusal {mode} {e} {s} {path} {path'} {offset} {offset'} {why} {why'} i j =
     let w : why ≡ why' = cc in
     let p : refusalNumber why ≤ 7 → placeAt offset path ≡ placeAt offset' path' =
     λ h. sym (told-place why (placeAt offset path) h) ∙ sym (t .spots)
-    ∙ ap (λ (x : WireError). placedAs (spotOf x) (spotAlong (spotIn mode) (kind.Rpc e) s (walkAt mode s 0))) w ∙ u .spots
+    ∙ ap (λ (x : WireError). placedAs (spotOf x) (spotAlong (spotIn mode) (kind.Rpc e) s (walkAt mode s 0))) w
+    ∙ u .spots
     ∙ told-place why' (placeAt offset' path') (subst (λ (x : WireError). refusalNumber x ≤ 7) w h) in
     record {
       reasons = w;
