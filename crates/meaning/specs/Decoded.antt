@@ -72,8 +72,8 @@ pub record Within (d : Dialect) (s : List ℕ) (x : Rpc) : Type 0 where
   pub small : length s ≤ 65536
   pub few : recordsIn x ≤ 512
 
--- what a body is refused with: 10 above 65,536 bytes, its length; 1 to 7 and 14 to 16, the first in reading order, 1 to 7
--- with its place; 11 above 512 records, their number
+-- what a body is refused with: 10 above 65,536 bytes, its length; 1 to 7 and 14 to 16, the first in reading order, 1 to
+-- 7 with its place; 11 above 512 records, their number
 pub data Refusal (d : Dialect) (s : List ℕ) : Told → Type 0 where
   is-large : 65536 < length s → Refusal d s (told too-large (length s ∷ []))
   is-wrong : {path : List ℕ} {offset : ℕ} {why : WireError} → length s ≤ 65536
@@ -472,7 +472,8 @@ too-large-exactly d s words n = (
   λ p. told-of (refuses (is-large (p .1))) ∙ ap (λ (k : ℕ). told too-large (k ∷ [])) (sym (p .0)),
 )
 
--- 1 to 7 and, where groups are passed over, 14 to 16 are given exactly to a body of at most 65,536 bytes that means no RPC
+-- 1 to 7 and, where groups are passed over, 14 to 16 are given exactly to a body of at most 65,536 bytes that means no
+-- RPC
 pub record Wrong (d : Dialect) (s : List ℕ) : Type 0 where
   pub small : length s ≤ 65536
   pub meaningless : (x : Rpc) → IsRpc d s x → ⊥

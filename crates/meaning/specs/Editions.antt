@@ -1,7 +1,8 @@
--- Laws between the editions, in either mode. Where no control of a body has a length-delimited field 5, both editions read
--- it alike, whatever its bytes are: refusals and their places, the number of records, the records, and what `decode`
--- leaves. And what 1.2 takes 1.1 takes, too: there it means the same RPC without IDONTWANTs. A message's own reading is the
--- same in each, since it has no edition to depend on: neither its kind, nor `messageAt`, `idParts` and `signOf`, take one.
+-- Laws between the editions, in either mode. Where no control of a body has a length-delimited field 5, both editions
+-- read it alike, whatever its bytes are: refusals and their places, the number of records, the records, and what
+-- `decode` leaves. And what 1.2 takes 1.1 takes, too: there it means the same RPC without IDONTWANTs. A message's own
+-- reading is the same in each, since it has no edition to depend on: neither its kind, nor `messageAt`, `idParts` and
+-- `signOf`, take one.
 use Prim.Native.Nat.{ℕ, _+_, _/_, _≤_}
 use mathlib.Core.Path.{_≡_, refl, sym, ap, ap₂, subst, _∙_}
 use mathlib.Core.Bool.{Bool, true, false, cond, _&&_, _||_}
@@ -18,7 +19,7 @@ use Rattle.basis.specs.declared.Edition.the-variants.{V11, V12}
 use Rattle.basis.specs.Dialect.{spoken}
 use Rattle.basis.specs.declared.Spot.{Spot}
 use Rattle.basis.specs.Spot.{inside, orElse}
-use Rattle.basis.specs.Cases.{either, clash, both, neither}
+use Rattle.basis.specs.Cases.{either, both, neither}
 use Rattle.protobuf.specs.declared.Field.{Field}
 use Rattle.protobuf.specs.declared.WireError.{WireError}
 use Rattle.protobuf.specs.declared.Checked.the-variants.{Fine}

@@ -1,15 +1,15 @@
 -- A message is refused, by this reason and at this place, exactly where its first refusal in reading order has them; so
--- there is at most one. The place lies within the message, and the path is one of nine, in 1.2 of ten. 14 to 16 carry no
--- place.
+-- there is at most one. The place lies within the message, and the path is one of nine, in 1.2 of ten. 14 to 16 carry
+-- no place.
 use Prim.Native.Nat.{ℕ, _+_, _-_, _*_, _^_, _≤_, _<_}
 use mathlib.Core.Path.{_≡_, refl, sym, ap, ap₂, subst, _∙_}
-use mathlib.Core.Bool.{Bool, true, false, cond}
+use mathlib.Core.Bool.{false, cond}
 use mathlib.Core.List.{List, [], _∷_, _++_, append-assoc}
 use mathlib.Core.Logic.{_↔_}
 use native.Mathlib.Omega.{arith}
-use lib.ListN.{length, take, drop, length-append, length-drop}
+use lib.ListN.{length, drop, length-append, length-drop}
 use lib.Dec.{eqb}
-use borrow.Author.Tests.{eqb-true, eqb-false, eq-eqb, ne-eqb}
+use borrow.Author.Tests.{eqb-true, eq-eqb, ne-eqb}
 use Rattle.basis.specs.declared.Mode.{Mode}
 use Rattle.basis.specs.declared.Mode.the-variants.{Groups}
 use Rattle.basis.specs.declared.Edition.{Edition}
@@ -27,7 +27,6 @@ use Rattle.peer_id.specs.declared.VarintError.{VarintError}
 use Rattle.peer_id.specs.declared.VarintError.the-variants.{BufferTooShort, Overflow, NonCanonical}
 use Rattle.peer_id.specs.Told.{varintTold}
 use Rattle.peer_id.specs.Uvarint.{uvarint}
-use Rattle.peer_id.specs.Laws.{uvarint-some}
 use Rattle.protobuf.specs.declared.Field.{Field}
 use Rattle.protobuf.specs.declared.WireError.{WireError}
 use Rattle.protobuf.specs.declared.WireError.the-variants.{Varint, FieldOverflow, UnsupportedWireType}
@@ -37,14 +36,14 @@ use Rattle.protobuf.specs.declared.Step.the-variants as step
 use Rattle.protobuf.specs.Refusal.{spotOf, placedAs}
 use Rattle.protobuf.specs.Field.{readField}
 use Rattle.protobuf.specs.Laws.{Stands, field-stands}
-use Rattle.protobuf.specs.Grammar.{Payload, number, eight, bytes, group, four, Entry, Value, varint, i64, len-prefix}
-use Rattle.protobuf.specs.Grammar.{i32, Holds, value, grouped, levelsOf}
+use Rattle.protobuf.specs.Grammar.{Payload, bytes, Entry, Value, varint, i64, len-prefix, i32, Holds, value, grouped}
+use Rattle.protobuf.specs.Grammar.{levelsOf}
 use Rattle.protobuf.specs.Encode.{tag, bytesField}
 use Rattle.protobuf.specs.Told.{refusalNumber}
 use Rattle.protobuf.specs.Faults.{FaultIn, bad-tag, bad-number, bad-type, bad-value, bad-length, too-long, too-wide}
 use Rattle.protobuf.specs.Faults.{too-deep, unclosed, crossed, within, Fault, of-field, stray}
 use Rattle.protobuf.specs.FaultLaws.{is-fault, fault-refused}
-use Rattle.protobuf.specs.Walk.{Fields, end, refused, _then_, walkAt, between, payloadOf, entryOf, valueIn}
+use Rattle.protobuf.specs.Walk.{Fields, walkAt, payloadOf, entryOf, valueIn}
 use Rattle.protobuf.specs.WalkLaws.{along, walk-on, between-length}
 use Rattle.protobuf.specs.Exactly.{Stood, field-stood, Found, found}
 use Rattle.schema.specs.declared.Kind.{Kind}
@@ -62,8 +61,8 @@ use Rattle.schema.specs.CountLaws.{count-along}
 use Rattle.schema.specs.Spots.{textSpot, roleSpot, spotAlong, spotIn}
 use Rattle.schema.specs.SpotsLaws.{spot-along, role-clean}
 use Rattle.schema.specs.TextLaws.{IsText, text as is-text, topic as is-topic}
-use Rattle.meaning.specs.Refused.{Meant, FineAs, Fine, RefusedAt, wire, text, inside, later, placeAt, toldAt}
-use Rattle.meaning.specs.Good.{Accepted, GoodRole, counts-good, good-counts, other-counts}
+use Rattle.meaning.specs.Refused.{FineAs, Fine, RefusedAt, wire, text, inside, later, placeAt, toldAt}
+use Rattle.meaning.specs.Good.{GoodRole, counts-good, good-counts, other-counts}
 use Rattle.meaning.specs.Accepted.{meant, meant-accepted}
 
 -- ---- the place, one field out
