@@ -253,8 +253,7 @@ older-control : {mode : Mode} {s : List ℕ} {c : ControlMessage} → IsControl 
 older-control (is-control g h1 h2 h3 h4 h5) = is-control g h1 h2 h3 h4 no-pairs
 
 older-controls : {mode : Mode} {ds : List (List ℕ)} {cs : List ControlMessage}
-    → Pairs (IsControl (spoken mode V12)) ds cs
-    → Pairs (IsControl (spoken mode V11)) ds (map olderControl cs)
+    → Pairs (IsControl (spoken mode V12)) ds cs → Pairs (IsControl (spoken mode V11)) ds (map olderControl cs)
 older-controls no-pairs = no-pairs
 older-controls (p paired ps) = older-control p paired older-controls ps
 
@@ -331,8 +330,7 @@ no-more-counted mode j k s h =
     (subst (λ (c : Counted). NoMore c (countAlong (counted mode) k s (fieldsOf mode s))) (sym (count-along mode j s))
     (no-more-along mode j k s h (fieldsOf mode s)))
 
-added-five : (f : Field) → isBytes 5 f ≡ true
-    → roleOf (kind.ControlMessage V11) (f .field) (f .«wire_type») ≡ Skip
+added-five : (f : Field) → isBytes 5 f ≡ true → roleOf (kind.ControlMessage V11) (f .field) (f .«wire_type») ≡ Skip
 unfolding roleOf
 added-five f h =
     let t = both (eqb (f .«wire_type») 2) (eqb (f .field) 5) h in

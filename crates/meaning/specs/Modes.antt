@@ -64,8 +64,8 @@ use Rattle.message.specs.Decode.{hasControl, onCount, decodeAnswer, leaves, dec
 use Rattle.rpc.specs.Rpc.{SubOpts, RawMessage, ControlIHave, ControlIWant, ControlGraft, PeerInfo, ControlPrune}
 use Rattle.rpc.specs.Rpc.{ControlIDontWant, ControlMessage, Rpc}
 use Rattle.rpc.specs.Grammar.{Pairs, no-pairs, _paired_, IsSubOpts, is-sub-opts, IsMessage, is-message, IsIHave}
-use Rattle.rpc.specs.Grammar.{is-ihave, IsIWant, is-iwant, IsGraft, is-graft, IsPeerInfo, is-peer-info, IsPrune, is-prune}
-use Rattle.rpc.specs.Grammar.{IsIDontWant, is-idontwant, IsControl, is-control, IsRpc, is-rpc}
+use Rattle.rpc.specs.Grammar.{is-ihave, IsIWant, is-iwant, IsGraft, is-graft, IsPeerInfo, is-peer-info, IsPrune}
+use Rattle.rpc.specs.Grammar.{is-prune, IsIDontWant, is-idontwant, IsControl, is-control, IsRpc, is-rpc}
 use Rattle.meaning.specs.RefusedLaws.{told-place}
 use Rattle.meaning.specs.Back.{one-rpc}
 use Rattle.meaning.specs.Decoded.{Within}
@@ -271,8 +271,7 @@ role-some s f (Sub j form) why h ih =
     (ih j form (valueIn s f) refl (plus-refused (ownOf j) (counted Plain j (valueIn s f)) why h))
 
 field-some : (k : Kind) (s : List ℕ) (f : Field) (w : Fields) (why : WireError) (c : Counted)
-    → roleCount (counted Plain) s f (RoleAt k f) ≡ c
-    → andThen c (countAlong (counted Plain) k s w) ≡ count.Refused why
+    → roleCount (counted Plain) s f (RoleAt k f) ≡ c → andThen c (countAlong (counted Plain) k s w) ≡ count.Refused why
     → (countAlong (counted Plain) k s w ≡ count.Refused why → spotAlong (spotIn Plain) k s w ≢ Nowhere)
     → ((j : Kind) (p : List ℕ) → rank j < rank k → counted Plain j p ≡ count.Refused why → spotIn Plain j p ≢ Nowhere)
     → orElse (roleSpot (spotIn Plain) s f (RoleAt k f)) (spotAlong (spotIn Plain) k s w) ≢ Nowhere

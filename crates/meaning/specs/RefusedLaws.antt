@@ -259,8 +259,7 @@ plus-refused n (count.Records m) why h = clash (cc)
 plus-refused n (count.Refused w) why h = cc
 
 text-refuses : (mode : Mode) (k : Kind) (s : List ℕ) (at : ℕ) (f : Field) (n m : ℕ) (why : WireError) (r : Role)
-    (x : Spot)
-    → Stood mode s at f → Stands s at f → RoleAt k f ≡ r → IsText r m → f .«wire_type» ≡ 2
+    (x : Spot) → Stood mode s at f → Stands s at f → RoleAt k f ≡ r → IsText r m → f .«wire_type» ≡ 2
     → textCount s f n ≡ count.Refused why → Refuses mode k s at why (orElse (textSpot s f) x)
 unfolding textCount textSpot
 text-refuses mode k s at f n m why r x t st q i w h =
@@ -309,8 +308,8 @@ sub-refuses mode k j form s at f why x t st q w i =
 
 -- a field that is refused
 role-refuses : (mode : Mode) (k : Kind) (s : List ℕ) (at : ℕ) (f : Field) (why : WireError) (r : Role) (x : Spot)
-    → AreBytes s
-    → Stood mode s at f → Stands s at f → RoleAt k f ≡ r → roleCount (counted mode) s f r ≡ count.Refused why
+    → AreBytes s → Stood mode s at f → Stands s at f → RoleAt k f ≡ r
+    → roleCount (counted mode) s f r ≡ count.Refused why
     → ((j : Kind) (d : List ℕ) → rank j < rank k → AreBytes d → counted mode j d ≡ count.Refused why
     → Refuses mode j d 0 why (spotIn mode j d))
     → Refuses mode k s at why (orElse (roleSpot (spotIn mode) s f r) x)
@@ -333,8 +332,7 @@ role-refuses mode k s at f why (Sub j form) x b t st q h ih =
 
 -- a field without refusal, before what is refused
 later-refuses : (mode : Mode) (k : Kind) (s : List ℕ) (at : ℕ) (f : Field) (why : WireError) (m : ℕ) (x : Spot)
-    → AreBytes s
-    → Stood mode s at f → Stands s at f → roleCount (counted mode) s f (RoleAt k f) ≡ count.Records m
+    → AreBytes s → Stood mode s at f → Stands s at f → roleCount (counted mode) s f (RoleAt k f) ≡ count.Records m
     → Refuses mode k s (f .next) why x → Refuses mode k s at why (orElse (roleSpot (spotIn mode) s f (RoleAt k f)) x)
 unfolding tag
 later-refuses mode k s at f why m x b t st h i =
@@ -352,8 +350,7 @@ later-refuses mode k s at f why m x b t st h i =
     }
 
 field-refuses : (mode : Mode) (k : Kind) (s : List ℕ) (at : ℕ) (f : Field) (why : WireError) (c : Counted) → AreBytes s
-    → Stood mode s at f
-    → Stands s at f → roleCount (counted mode) s f (RoleAt k f) ≡ c
+    → Stood mode s at f → Stands s at f → roleCount (counted mode) s f (RoleAt k f) ≡ c
     → andThen c (countAlong (counted mode) k s (walkAt mode s (f .next))) ≡ count.Refused why
     → (countAlong (counted mode) k s (walkAt mode s (f .next)) ≡ count.Refused why
     → Refuses mode k s (f .next) why (spotAlong (spotIn mode) k s (walkAt mode s (f .next))))
@@ -370,16 +367,14 @@ field-refuses mode k s at f why (count.Refused w) b t st q h rest ih =
     (q ∙ ap count.Refused e) ih
 
 wire-refuses : (mode : Mode) (k : Kind) (s : List ℕ) (at : ℕ) (why : WireError) → AreBytes s
-    → step.Refused why ≡ readField mode s at
-    → Refuses mode k s at why (spotOf why)
+    → step.Refused why ≡ readField mode s at → Refuses mode k s at why (spotOf why)
 wire-refuses mode k s at why b e =
     let t = is-fault mode s at why b e in
     record {
       path = [];
       offset = t .place;
       is = wire (t .fault);
-      told = told-own (spotOf why) (spot-at (t .place))
-          (t .spot-at);
+      told = told-own (spotOf why) (spot-at (t .place)) (t .spot-at);
     }
 
 -- a message that is refused has a first refusal
@@ -499,8 +494,7 @@ tells-field mode k s at f path offset why e c p =
 
 -- by a later one
 tells-later : (mode : Mode) (k : Kind) (s : List ℕ) (at : ℕ) (f : Field) (path : List ℕ) (offset : ℕ) (why : WireError)
-    (m : ℕ)
-    → step.At f ≡ readField mode s at → roleCount (counted mode) s f (RoleAt k f) ≡ count.Records m
+    (m : ℕ) → step.At f ≡ readField mode s at → roleCount (counted mode) s f (RoleAt k f) ≡ count.Records m
     → Tells mode k s (f .next) path offset why → Tells mode k s at path offset why
 tells-later mode k s at f path offset why m e c t =
     let w = walk-on mode s at (step.At f) e in
