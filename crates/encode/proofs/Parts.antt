@@ -81,11 +81,11 @@ added-few V11 = omega arith
 added-few V12 = omega arith
 
 pub few-rows : (k : Kind) → length (table k) ≤ 6
-few-rows (kind.Rpc d) = omega arith
+few-rows (kind.Rpc e) = omega arith
 few-rows kind.SubOpts = omega arith
 few-rows kind.RawMessage = omega arith
 few-rows kind.Topic = omega arith
-few-rows (kind.ControlMessage d) = omega (arith, added-few (d .edition))
+few-rows (kind.ControlMessage e) = omega (arith, added-few e)
 few-rows kind.ControlIHave = omega arith
 few-rows kind.ControlIWant = omega arith
 few-rows kind.MessageId = omega arith

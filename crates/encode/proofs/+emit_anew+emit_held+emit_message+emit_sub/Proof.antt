@@ -45,16 +45,16 @@ use Rattle.encode.proofs.+emit_anew+emit_held+emit_message+emit_sub.{st
 use Rattle.encode.proofs.+emit_anew+emit_held+emit_message+emit_sub.Tie.{close}
 
 abbrev μ-emit-anew : Measures 2 emit-anew-kinds.ps ℕ
-μ-emit-anew κs a = 5 * rank (a .1 .1 .0) + 3
+μ-emit-anew κs a = 5 * rank (a .1 .1 .1 .0) + 3
 
 abbrev μ-emit-held : Measures 2 emit-held-kinds.ps ℕ
-μ-emit-held κs a = depth (a .1 .1 .0)
+μ-emit-held κs a = depth (a .1 .1 .1 .0)
 
 abbrev μ-emit-message : Measures 2 emit-message-kinds.ps ℕ
-μ-emit-message κs a = 5 * rank (a .1 .0) + 1
+μ-emit-message κs a = 5 * rank (a .1 .1 .0) + 1
 
 abbrev μ-emit-sub : Measures 2 emit-sub-kinds.ps ℕ
-μ-emit-sub κs a = 5 * rank (a .1 .1 .1 .0) + 2
+μ-emit-sub κs a = 5 * rank (a .1 .1 .1 .1 .0) + 2
 
 abbrev emit-anew-at : ℕ → In 2 emit-anew-kinds.ps
 emit-anew-at t = and 2 emit-anew-kinds.ps (is 2 emit-anew-kinds.ps μ-emit-anew t) emit-anew.Pre
@@ -281,7 +281,7 @@ emit-message-emit-held-requires t c κs =
       omega (arith, c .before .before .before .before .before .before .before .before .before .before .before .before .before .pre .0),
       (
         omega (arith, c .before .before .before .before .before .before .before .before .before .rows .ensures),
-        held-fits _ (a .kind) (a .part .now) (l .n) _ q r _ h (c .before .before .before .before .emit-own .ensures)
+        held-fits (a .mode) _ (a .kind) (a .part .now) (l .n) _ q r _ h (c .before .before .before .before .emit-own .ensures)
             (going-fits _ _ _ _ _ _ (l .inv .2) (part (l .n)) _ d),
       ),
     )
@@ -302,7 +302,7 @@ emit-message-loop-again t c =
     let q = c .before .before .before .before .before .before .before .before .before .before .before .before .before .slots-of .ensures in
     let h = c .before .before .before .before .held-of .ensures ∙ ap heldOf r in
     let k = l .inv .3 in
-    (omega arith, omega (arith, c .before .before .before .before .before .before .before .before .before .before .loop-test .taken), going-part _ _ _ _ _ _ (l .inv .2) (part (l .n)) _ d _ _ (row-puts _ (a .kind) (a .part .now) (l .n) _ q r _ h (c .before .before .before .before .before .before .before .emit-own .ensures) (c .before .before .emit-held .ensures)), omega arith)
+    (omega arith, omega (arith, c .before .before .before .before .before .before .before .before .before .before .loop-test .taken), going-part _ _ _ _ _ _ (l .inv .2) (part (l .n)) _ d _ _ (row-puts (a .mode) _ (a .kind) (a .part .now) (l .n) _ q r _ h (c .before .before .before .before .before .before .before .emit-own .ensures) (c .before .before .emit-held .ensures)), omega arith)
 
 emit-message-same-length : (t : ℕ) → emit-message-lts.Need-same-length (emit-message-claims t) (emit-message-at t) emit-message.Post emit-message-Inv-loop emit-message-μ-loop
 emit-message-same-length t c = let k = c .before .loop .inv .3 in omega arith
