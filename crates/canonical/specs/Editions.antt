@@ -5,6 +5,7 @@ use Prim.Native.Nat.{ℕ}
 use mathlib.Core.Path.{_≡_, refl, sym, ap, _∙_}
 use mathlib.Core.Bool.{false}
 use mathlib.Core.List.{List}
+use Rattle.basis.specs.declared.Mode.{Mode}
 use Rattle.basis.specs.declared.Edition.the-variants.{V11, V12}
 use Rattle.basis.specs.declared.Dialect.{Dialect}
 use Rattle.basis.specs.Dialect.{spoken}
@@ -20,7 +21,7 @@ use Rattle.meaning.specs.Editions.{declines, same-accept, older-accept}
 use Rattle.canon.specs.Editions.{same-canon}
 
 -- ---- encode
-encode-same : (d e : Dialect) (s out : List ℕ) (c : Checked) → declines s ≡ false
+encode-same : (d e : Dialect) (s out : List ℕ) (c : Checked) → declines (e .mode) s ≡ false
     → (encodeChecked d s out c ≡ encodeChecked e s out c) × (encodedChecked d s out c ≡ encodedChecked e s out c)
 encode-same d e s out (Wrong why) h = (refl, refl)
 encode-same d e s out Fine h = (
@@ -28,7 +29,7 @@ encode-same d e s out Fine h = (
   ap (λ (xs : List ℕ). written xs out) (same-canon d e s h),
 )
 
-pub same-encode : (d e : Dialect) (s out : List ℕ) → declines s ≡ false
+pub same-encode : (d e : Dialect) (s out : List ℕ) → declines (e .mode) s ≡ false
     → (encodeAnswer d s out ≡ encodeAnswer e s out) × (encodeLeft d s out ≡ encodeLeft e s out)
 unfolding encodeAnswer encodeLeft
 same-encode d e s out h =
@@ -40,31 +41,31 @@ same-encode d e s out h =
 signs-by : (d e : Dialect) (s : List ℕ) (i : ℕ) (out : List ℕ) → acceptOf d s ≡ acceptOf e s
     → (signAnswer d s i out ≡ signAnswer e s i out) × (signLeft d s i out ≡ signLeft e s i out)
 unfolding signAnswer signLeft
-signs-by d e s i out h = (ap (signChecked s i out) h, ap (signedChecked s i out) h)
+signs-by d e s i out h = (ap (signChecked (e .mode) s i out) h, ap (signedChecked (e .mode) s i out) h)
 
 ids-by : (pre : List ℕ) (d e : Dialect) (s : List ℕ) (i : ℕ) (out : List ℕ) → acceptOf d s ≡ acceptOf e s
     → (idAnswer pre d s i out ≡ idAnswer pre e s i out) × (idLeft pre d s i out ≡ idLeft pre e s i out)
 unfolding idAnswer idLeft
-ids-by pre d e s i out h = (ap (answerChecked pre s i out) h, ap (leftChecked pre s i out) h)
+ids-by pre d e s i out h = (ap (answerChecked (e .mode) pre s i out) h, ap (leftChecked (e .mode) pre s i out) h)
 
-pub same-sign : (d e : Dialect) (s : List ℕ) (i : ℕ) (out : List ℕ) → declines s ≡ false
+pub same-sign : (d e : Dialect) (s : List ℕ) (i : ℕ) (out : List ℕ) → declines (e .mode) s ≡ false
     → (signAnswer d s i out ≡ signAnswer e s i out) × (signLeft d s i out ≡ signLeft e s i out)
 same-sign d e s i out h = signs-by d e s i out (same-accept d e s h)
 
-pub same-id : (pre : List ℕ) (d e : Dialect) (s : List ℕ) (i : ℕ) (out : List ℕ) → declines s ≡ false
+pub same-id : (pre : List ℕ) (d e : Dialect) (s : List ℕ) (i : ℕ) (out : List ℕ) → declines (e .mode) s ≡ false
     → (idAnswer pre d s i out ≡ idAnswer pre e s i out) × (idLeft pre d s i out ≡ idLeft pre e s i out)
 same-id pre d e s i out h = ids-by pre d e s i out (same-accept d e s h)
 
 -- ---- a body that 1.2 takes
-older-same : (s : List ℕ) → acceptOf (spoken V12) s ≡ Fine → acceptOf (spoken V11) s ≡ acceptOf (spoken V12) s
-older-same s h = older-accept s h ∙ sym h
+older-same : (mode : Mode) (s : List ℕ) → acceptOf (spoken mode V12) s ≡ Fine → acceptOf (spoken mode V11) s ≡ acceptOf (spoken mode V12) s
+older-same mode s h = older-accept mode s h ∙ sym h
 
-pub older-sign : (s : List ℕ) (i : ℕ) (out : List ℕ) → acceptOf (spoken V12) s ≡ Fine
-    → (signAnswer (spoken V11) s i out ≡ signAnswer (spoken V12) s i out)
-    × (signLeft (spoken V11) s i out ≡ signLeft (spoken V12) s i out)
-older-sign s i out h = signs-by (spoken V11) (spoken V12) s i out (older-same s h)
+pub older-sign : (mode : Mode) (s : List ℕ) (i : ℕ) (out : List ℕ) → acceptOf (spoken mode V12) s ≡ Fine
+    → (signAnswer (spoken mode V11) s i out ≡ signAnswer (spoken mode V12) s i out)
+    × (signLeft (spoken mode V11) s i out ≡ signLeft (spoken mode V12) s i out)
+older-sign mode s i out h = signs-by (spoken mode V11) (spoken mode V12) s i out (older-same mode s h)
 
-pub older-id : (pre s : List ℕ) (i : ℕ) (out : List ℕ) → acceptOf (spoken V12) s ≡ Fine
-    → (idAnswer pre (spoken V11) s i out ≡ idAnswer pre (spoken V12) s i out)
-    × (idLeft pre (spoken V11) s i out ≡ idLeft pre (spoken V12) s i out)
-older-id pre s i out h = ids-by pre (spoken V11) (spoken V12) s i out (older-same s h)
+pub older-id : (mode : Mode) (pre s : List ℕ) (i : ℕ) (out : List ℕ) → acceptOf (spoken mode V12) s ≡ Fine
+    → (idAnswer pre (spoken mode V11) s i out ≡ idAnswer pre (spoken mode V12) s i out)
+    × (idLeft pre (spoken mode V11) s i out ≡ idLeft pre (spoken mode V12) s i out)
+older-id mode pre s i out h = ids-by pre (spoken mode V11) (spoken mode V12) s i out (older-same mode s h)
