@@ -1,7 +1,7 @@
 -- The nine rows of the scope's table "Bodies and answers" that are marked P, as one theorem over the calls: in every
 -- dialect, for every lent table and buffer, what `decode` and `encode` tell and leave, and in the third row also
--- `sign_bytes` of message 0. A refusal has its place beside the Rust's own numbers. Other bodies stand apart, and those
--- that the editions do not read alike, both readings beside each other.
+-- `sign_bytes` of message 0. A refusal has its place beside the Rust's own numbers. Other bodies stand apart, those that
+-- the editions do not read alike, both readings beside each other, and those with groups, where they are passed over.
 use Prim.Native.Nat.{ℕ, zero, suc, _+_, _*_, _/_, _≤_, _<_}
 use mathlib.Core.Path.{_≡_, refl, sym, ap, subst, _∙_}
 use mathlib.Core.Bool.{Bool, true, false, cond}
@@ -12,12 +12,14 @@ use lib.ListN.{length, drop, replicate, length-replicate, length-append}
 use lib.Seq.{sets, sets-eq}
 use borrow.Author.Tests.{le-ltb, lt-ltb}
 use Rattle.basis.specs.declared.Mode.{Mode}
+use Rattle.basis.specs.declared.Mode.the-variants.{Plain, Groups}
+use Rattle.basis.specs.declared.Edition.{Edition}
 use Rattle.basis.specs.declared.Edition.the-variants.{V11, V12}
 use Rattle.basis.specs.declared.Dialect.{Dialect}
 use Rattle.basis.specs.Dialect.{spoken}
 use Rattle.basis.specs.declared.Told.{Told}
 use Rattle.basis.specs.Refusals.{buffer-too-short, non-canonical, field-overflow, unsupported-wire-type}
-use Rattle.basis.specs.Refusals.{invalid-field-number, invalid-utf8, short-room}
+use Rattle.basis.specs.Refusals.{invalid-field-number, invalid-utf8, short-room, end-group, group-depth, group-open}
 use Rattle.basis.specs.Told.{told, placed as toldAt, done}
 use Rattle.basis.specs.Writing.{answer, written}
 use Rattle.peer_id.specs.declared.VarintError.the-variants.{BufferTooShort, NonCanonical}
@@ -27,9 +29,11 @@ use Rattle.protobuf.specs.declared.WireError.{WireError}
 use Rattle.protobuf.specs.declared.Refusal.{Refusal as Placed}
 use Rattle.protobuf.specs.declared.WireError.the-variants.{Varint, FieldOverflow, UnsupportedWireType}
 use Rattle.protobuf.specs.declared.WireError.the-variants.{InvalidFieldNumber, InvalidUtf8, TooManyRecords}
+use Rattle.protobuf.specs.declared.WireError.the-variants.{EndGroup, GroupDepth, GroupOpen}
 use Rattle.protobuf.specs.Refusal.{nowhere}
 use Rattle.protobuf.specs.Told.{wireTold, refusalTold, encodedTold}
-use Rattle.protobuf.specs.Field.{readTag, readLen, readVarint, skipFixed, skipField, readValue, readField}
+use Rattle.protobuf.specs.Field.{readTag, readLen, readVarint, skipFixed, skipValue, passed, skipFrom, skipGroup}
+use Rattle.protobuf.specs.Field.{skipField, readValue, readField}
 use Rattle.protobuf.specs.Walk.{walkFrom, walkAt, between}
 use Rattle.protobuf.specs.Encode.{tag, bytesField, varintField, ofWritten}
 use Rattle.protobuf.specs.EncodeLaws.{bytes-field-length}
@@ -128,6 +132,11 @@ abbrev pub thirdRow : List ℕ
 thirdRow =
     2 ∷ 2 ∷ 8 ∷ 0 ∷ 0 ∷ 1 ∷ 5 ∷ 6 ∷ 0 ∷ 0 ∷ 0 ∷ 0 ∷ 0 ∷ 0 ∷ 0 ∷ 0 ∷ 0 ∷ 0 ∷ 0 ∷ 0 ∷ []
 
+-- the seventh row is the one that the modes do not read alike
+abbrev pub openTold : Mode → Told
+openTold Plain = refused unsupported-wire-type (3 ∷ 1 ∷ []) 1 []
+openTold Groups = told group-open []
+
 pub record PRows (d : Dialect) : Type 0 where
   -- empty: accepted; re-encodes empty
   pub empty : NoRecords d [] 0 × EncodesAs d [] []
@@ -144,8 +153,8 @@ pub record PRows (d : Dialect) : Type 0 where
   pub varint-long : Refuses d (0x80 ∷ 0x00 ∷ []) (refused non-canonical [] 0 [])
   -- `00`: 6: field 0, offset 0; at 0
   pub field-zero : Refuses d (0x00 ∷ []) (refused invalid-field-number (0 ∷ 0 ∷ []) 0 [])
-  -- `0b`: 5: type 3, offset 1; at 1
-  pub type-three : Refuses d (0x0b ∷ []) (refused unsupported-wire-type (3 ∷ 1 ∷ []) 1 [])
+  -- `0b`: 5: type 3, offset 1; at 1; and 16 where groups are passed over
+  pub type-three : Refuses d (0x0b ∷ []) (openTold (d .mode))
   -- `0a 05 08`: 4: offset 2, length 5, remaining 1; at 2
   pub past-end : Refuses d (0x0a ∷ 0x05 ∷ 0x08 ∷ []) (refused field-overflow (2 ∷ 5 ∷ 1 ∷ []) 2 [])
   -- `0a 03 12 01 ff`: 7: offset 1; at 3 in 1
@@ -204,15 +213,18 @@ encodes-by d s bs n e h out =
     (subst (λ (xs : List ℕ). Writes bs out (encodedTold (ofWritten (answer xs out))) (written xs out)) (sym h)
     (writes (λ z. encodedTold (ofWritten z)) (λ k. refl) (λ k. refl) bs out))
 
-signs-by : (d : Dialect) (s bs : List ℕ) (n i a e : ℕ) → bodyRecords d s ≡ tested.Records n → messageAt (d .mode) s i ≡ At a e
+signs-by : (d : Dialect) (s bs : List ℕ) (n i a e : ℕ) → bodyRecords d s ≡ tested.Records n
+    → messageAt (d .mode) s i ≡ At a e
     → signOf (d .mode) (between s a e) ≡ bs → (out : List ℕ)
     → Writes bs out (messageTold (signAnswer d s i out)) (signLeft d s i out)
 unfolding signAnswer signLeft acceptOf
 signs-by d s bs n i a e q p h out =
     subst
-    (λ (r : Tested). Writes bs out (messageTold (signChecked (d .mode) s i out (checked r))) (signedChecked (d .mode) s i out (checked r)))
+    (λ (r : Tested). Writes bs out (messageTold (signChecked (d .mode) s i out (checked r)))
+    (signedChecked (d .mode) s i out (checked r)))
     (sym q)
-    (subst (λ (r : MessageAt). Writes bs out (messageTold (signAt (d .mode) s out r)) (signedAt (d .mode) s out r)) (sym p)
+    (subst (λ (r : MessageAt). Writes bs out (messageTold (signAt (d .mode) s out r)) (signedAt (d .mode) s out r))
+    (sym p)
     (subst (λ (xs : List ℕ). Writes bs out (messageTold (message (answer xs out))) (written xs out)) (sym h)
     (writes (λ z. messageTold (message z)) (λ k. refl) (λ k. refl) bs out)))
 
@@ -222,7 +234,8 @@ at-front row t k h =
     sets-eq row t 0 (omega arith) ∙ ap (λ (j : ℕ). row ++ drop j t) z
 
 one-by : (d : Dialect) (s row : List ℕ) (x : Rpc) (r : Record) → IsRecord (r .kind)
-    → bodyRecords d s ≡ tested.Records 1 → hasControl (d .mode) s ≡ false → rowsOf (d .mode) (kind.Rpc (d .edition)) 0 s ≡ r ∷ []
+    → bodyRecords d s ≡ tested.Records 1 → hasControl (d .mode) s ≡ false
+    → rowsOf (d .mode) (kind.Rpc (d .edition)) 0 s ≡ r ∷ []
     → wordsOfAll (r ∷ []) ≡ row → length row ≡ 20 → readBack s (r ∷ []) false ≡ x
     → (t : List ℕ) → OneRecord d s row x t
 one-by d s row x r own e c rs w k b t =
@@ -257,6 +270,13 @@ thirdRecord =
           };
     }
 
+row-three : (mode : Mode) (e : Edition) → Refuses (spoken mode e) (0x0b ∷ []) (openTold mode)
+unfolding readUvarint readFrom groupOf readTag readLen readVarint skipFixed skipValue passed skipFrom skipGroup
+    skipField readValue readField walkFrom walkAt roleOf rank ownOf textCount textSpot toDepth overKinds counted spotIn
+    bodyRecords
+row-three Plain e = refuses-by (spoken Plain e) (0x0b ∷ []) (at (UnsupportedWireType 3 1) 1 []) refl
+row-three Groups e = refuses-by (spoken Groups e) (0x0b ∷ []) (nowhere GroupOpen) refl
+
 pub rows : (d : Dialect) → PRows d
 unfolding uvarint bytesOf readUvarint readFrom groupOf isUtf8 run readTag readLen readVarint skipFixed skipField
     readValue readField walkFrom walkAt tag bytesField varintField roleOf rank ownOf textCount textSpot toDepth overKinds
@@ -269,7 +289,7 @@ rows d =
       controls = (
         none-by d (0x1a ∷ 0x00 ∷ 0x1a ∷ 0x00 ∷ []) true refl refl refl,
         encodes-by d (0x1a ∷ 0x00 ∷ 0x1a ∷ 0x00 ∷ []) (0x1a ∷ 0x00 ∷ []) 0 refl
-            (same-canon d (spoken (d .mode) V11) (0x1a ∷ 0x00 ∷ 0x1a ∷ 0x00 ∷ []) refl),
+            (same-canon (d .mode) (d .edition) V11 (0x1a ∷ 0x00 ∷ 0x1a ∷ 0x00 ∷ []) refl),
       );
       last-from = (
         one-by d thirdBody thirdRow thirdRpc thirdRecord refl refl refl refl refl refl refl,
@@ -279,7 +299,7 @@ rows d =
       varint-short = refuses-by d (0x80 ∷ []) (at (Varint BufferTooShort 0) 0 []) refl;
       varint-long = refuses-by d (0x80 ∷ 0x00 ∷ []) (at (Varint NonCanonical 0) 0 []) refl;
       field-zero = refuses-by d (0x00 ∷ []) (at (InvalidFieldNumber 0 0) 0 []) refl;
-      type-three = refuses-by d (0x0b ∷ []) (at (UnsupportedWireType 3 1) 1 []) refl;
+      type-three = row-three (d .mode) (d .edition);
       past-end = refuses-by d (0x0a ∷ 0x05 ∷ 0x08 ∷ []) (at (FieldOverflow 2 5 1) 2 []) refl;
       not-utf8 = refuses-by d (0x0a ∷ 0x03 ∷ 0x12 ∷ 0x01 ∷ 0xff ∷ []) (at (InvalidUtf8 1) 3 (1 ∷ [])) refl;
     }
@@ -294,7 +314,7 @@ unfolding uvarint bytesOf readUvarint readFrom groupOf isUtf8 run readTag readLe
     readValue readField walkFrom walkAt tag bytesField varintField roleOf rank ownOf textCount textSpot toDepth overKinds
     counted spotIn bodyRecords setPlace withField slotsOf hasField hasControl decodeAnswer placed slotIn numbered ownPart heldPart
     canon entriesOf mergedOf bodyPart canonBody signOf declines
-worked d = (same-canon d (spoken (d .mode) V11) (0x1a ∷ 0x02 ∷ 0x28 ∷ 0x01 ∷ []) refl, refl)
+worked d = (same-canon (d .mode) (d .edition) V11 (0x1a ∷ 0x02 ∷ 0x28 ∷ 0x01 ∷ []) refl, refl)
 
 -- ---- bodies that the editions do not read alike
 -- that decode tells them apart as well is `rows-editions` of schema
@@ -318,7 +338,7 @@ pub record EditionRows (mode : Mode) : Type 0 where
       × EncodesAs (spoken mode V12) (0x1a ∷ 0x07 ∷ 0x2a ∷ 0x03 ∷ 0x0a ∷ 0x01 ∷ 0x41 ∷ 0x22 ∷ 0x00 ∷ [])
       (0x1a ∷ 0x07 ∷ 0x22 ∷ 0x00 ∷ 0x2a ∷ 0x03 ∷ 0x0a ∷ 0x01 ∷ 0x41 ∷ [])
       × (map (λ (r : Record). r .kind)
-      (rowsOf mode (kind.Rpc (spoken mode V12)) 0 (0x1a ∷ 0x07 ∷ 0x2a ∷ 0x03 ∷ 0x0a ∷ 0x01 ∷ 0x41 ∷ 0x22 ∷ 0x00 ∷ []))
+      (rowsOf mode (kind.Rpc V12) 0 (0x1a ∷ 0x07 ∷ 0x2a ∷ 0x03 ∷ 0x0a ∷ 0x01 ∷ 0x41 ∷ 0x22 ∷ 0x00 ∷ []))
       ≡ kind.ControlIDontWant ∷ kind.MessageId ∷ kind.ControlPrune ∷ [])
   -- `1a 02 2a 00 1a 02 22 00`: `1a 02 22 00`; `1a 04 22 00 2a 00`
   pub two-controls :
@@ -346,12 +366,14 @@ rows-editions mode =
             (at (Varint BufferTooShort 0) 4 (3 ∷ 5 ∷ [])) refl,
       );
       id-past-end = (
-        encodes-by (spoken mode V11) (0x1a ∷ 0x05 ∷ 0x2a ∷ 0x03 ∷ 0x0a ∷ 0x02 ∷ 0x41 ∷ []) (0x1a ∷ 0x00 ∷ []) 0 refl refl,
+        encodes-by (spoken mode V11) (0x1a ∷ 0x05 ∷ 0x2a ∷ 0x03 ∷ 0x0a ∷ 0x02 ∷ 0x41 ∷ [])
+            (0x1a ∷ 0x00 ∷ []) 0 refl refl,
         refuses-by (spoken mode V12) (0x1a ∷ 0x05 ∷ 0x2a ∷ 0x03 ∷ 0x0a ∷ 0x02 ∷ 0x41 ∷ [])
             (at (FieldOverflow 2 2 1) 6 (3 ∷ 5 ∷ [])) refl,
       );
       one-id = (
-        encodes-by (spoken mode V11) (0x1a ∷ 0x05 ∷ 0x2a ∷ 0x03 ∷ 0x0a ∷ 0x01 ∷ 0xff ∷ []) (0x1a ∷ 0x00 ∷ []) 0 refl refl,
+        encodes-by (spoken mode V11) (0x1a ∷ 0x05 ∷ 0x2a ∷ 0x03 ∷ 0x0a ∷ 0x01 ∷ 0xff ∷ [])
+            (0x1a ∷ 0x00 ∷ []) 0 refl refl,
         encodes-by (spoken mode V12) (0x1a ∷ 0x05 ∷ 0x2a ∷ 0x03 ∷ 0x0a ∷ 0x01 ∷ 0xff ∷ [])
             (0x1a ∷ 0x05 ∷ 0x2a ∷ 0x03 ∷ 0x0a ∷ 0x01 ∷ 0xff ∷ []) 2 refl refl,
       );
@@ -374,7 +396,8 @@ rows-editions mode =
       );
       unknown-inside = (
         encodes-by (spoken mode V11) (0x1a ∷ 0x04 ∷ 0x2a ∷ 0x02 ∷ 0x10 ∷ 0x07 ∷ []) (0x1a ∷ 0x00 ∷ []) 0 refl refl,
-        encodes-by (spoken mode V12) (0x1a ∷ 0x04 ∷ 0x2a ∷ 0x02 ∷ 0x10 ∷ 0x07 ∷ []) (0x1a ∷ 0x02 ∷ 0x2a ∷ 0x00 ∷ []) 1 refl
+        encodes-by (spoken mode V12) (0x1a ∷ 0x04 ∷ 0x2a ∷ 0x02 ∷ 0x10 ∷ 0x07 ∷ [])
+            (0x1a ∷ 0x02 ∷ 0x2a ∷ 0x00 ∷ []) 1 refl
             refl,
       );
     }
@@ -449,12 +472,12 @@ module _ (mode : Mode) (n : ℕ) (h : n ≤ 512) where
   ids-older = records-within
       (record { means = older mode ids-mean; small = omega (arith, ids-short); few = omega arith })
 
-pub rows-full :
+pub rows-full : (mode : Mode) →
     (bodyRecords (spoken mode V11) (encodeRpc (idsRpc 511)) ≡ tested.Records 0)
     × (bodyRecords (spoken mode V12) (encodeRpc (idsRpc 511)) ≡ tested.Records 512)
     × (bodyRecords (spoken mode V11) (encodeRpc (idsRpc 512)) ≡ tested.Records 0)
     × (bodyRecords (spoken mode V12) (encodeRpc (idsRpc 512)) ≡ tested.Refused (nowhere (TooManyRecords 513)))
-rows-full =
+rows-full mode =
     let a : 511 ≤ 512 = omega arith in
     let b : 512 ≤ 512 = omega arith in
     let r = ids-records mode 511 a in
@@ -466,7 +489,179 @@ rows-full =
         few = omega (arith, r);
       }) ∙ ap tested.Records r,
       ids-older mode 512 b,
-      records-many (spoken mode V12) (encodeRpc (idsRpc 512)) (recordsIn (idsRpc 512)) (omega (arith, ids-short mode 512 b))
+      records-many (spoken mode V12) (encodeRpc (idsRpc 512)) (recordsIn (idsRpc 512))
+          (omega (arith, ids-short mode 512 b))
           (meant-count (ids-mean mode 512 b)) (omega (arith, q))
           ∙ ap (λ (k : ℕ). tested.Refused (nowhere (TooManyRecords k))) q,
     )
+
+-- ---- bodies with groups, where they are passed over
+-- a message with a group that holds another `from`; the RPC that is read back, and the row of the table
+abbrev pub groupBody : List ℕ
+groupBody = 0x12 ∷ 0x08 ∷ 0x0a ∷ 0x01 ∷ 0x42 ∷ 0x0b ∷ 0x0a ∷ 0x01 ∷ 0x41 ∷ 0x0c ∷ []
+
+abbrev pub groupRpc : Rpc
+groupRpc =
+    record {
+      subscriptions = [];
+      publish =
+          record {
+            raw = 0x0a ∷ 0x01 ∷ 0x42 ∷ 0x0b ∷ 0x0a ∷ 0x01 ∷ 0x41 ∷ 0x0c ∷ [];
+            from = some (0x42 ∷ []);
+            «data» = none;
+            seqno = none;
+            «topic_ids» = [];
+            signature = none;
+            key = none;
+          }
+          ∷ [];
+      control = none;
+    }
+
+abbrev pub groupRow : List ℕ
+groupRow =
+    2 ∷ 2 ∷ 10 ∷ 0 ∷ 0 ∷ 1 ∷ 2 ∷ 3 ∷ 0 ∷ 0 ∷ 0 ∷ 0 ∷ 0 ∷ 0 ∷ 0 ∷ 0 ∷ 0 ∷ 0 ∷ 0 ∷ 0 ∷ []
+
+pub record GroupRows (e : Edition) : Type 0 where
+  -- `0b 0c`, `1b 1c`, `83 01 84 01`, `0b 13 14 0c`: accepted; each re-encodes empty
+  pub dropped : EncodesAs (spoken Groups e) (0x0b ∷ 0x0c ∷ []) []
+      × EncodesAs (spoken Groups e) (0x1b ∷ 0x1c ∷ []) []
+      × EncodesAs (spoken Groups e) (0x83 ∷ 0x01 ∷ 0x84 ∷ 0x01 ∷ []) []
+      × EncodesAs (spoken Groups e) (0x0b ∷ 0x13 ∷ 0x14 ∷ 0x0c ∷ []) []
+  -- `0b`, `0b 08 01`, `1a 01 0b 0c`: 16
+  pub left-open : Refuses (spoken Groups e) (0x0b ∷ []) (told group-open [])
+      × Refuses (spoken Groups e) (0x0b ∷ 0x08 ∷ 0x01 ∷ []) (told group-open [])
+      × Refuses (spoken Groups e) (0x1a ∷ 0x01 ∷ 0x0b ∷ 0x0c ∷ []) (told group-open [])
+  -- `0c`, `0b 14`, `0b 13 0c`, `0b 0c 0c`, `12 01 0c`: 14
+  pub not-open : Refuses (spoken Groups e) (0x0c ∷ []) (told end-group [])
+      × Refuses (spoken Groups e) (0x0b ∷ 0x14 ∷ []) (told end-group [])
+      × Refuses (spoken Groups e) (0x0b ∷ 0x13 ∷ 0x0c ∷ []) (told end-group [])
+      × Refuses (spoken Groups e) (0x0b ∷ 0x0c ∷ 0x0c ∷ []) (told end-group [])
+      × Refuses (spoken Groups e) (0x12 ∷ 0x01 ∷ 0x0c ∷ []) (told end-group [])
+  -- 32 × `0b`, 32 × `0c`: re-encodes empty; the same inside `1a 40`: `1a 00`
+  pub deepest : EncodesAs (spoken Groups e) (replicate 32 0x0b ++ replicate 32 0x0c) []
+      × EncodesAs (spoken Groups e) (0x1a ∷ 0x40 ∷ replicate 32 0x0b ++ replicate 32 0x0c) (0x1a ∷ 0x00 ∷ [])
+  -- 33 × `0b`, with ends or without: 15
+  pub too-deep : Refuses (spoken Groups e) (replicate 33 0x0b ++ replicate 33 0x0c) (told group-depth [])
+      × Refuses (spoken Groups e) (replicate 33 0x0b) (told group-depth [])
+  -- 32 × `0b`, `03`: 6: field 0, offset 32; at 32. 32 × `0b`: 16
+  pub deep-number : Refuses (spoken Groups e) (replicate 32 0x0b ++ (0x03 ∷ []))
+      (refused invalid-field-number (0 ∷ 32 ∷ []) 32 [])
+      × Refuses (spoken Groups e) (replicate 32 0x0b) (told group-open [])
+  -- `0b 04`: 6: field 0, offset 1; at 1
+  pub number-inside : Refuses (spoken Groups e) (0x0b ∷ 0x04 ∷ []) (refused invalid-field-number (0 ∷ 1 ∷ []) 1 [])
+  -- `0b 0e`: 5: type 6, offset 2; at 2
+  pub type-inside : Refuses (spoken Groups e) (0x0b ∷ 0x0e ∷ []) (refused unsupported-wire-type (6 ∷ 2 ∷ []) 2 [])
+  -- `0b 0a 05 08`: 4: offset 3, length 5, remaining 1; at 3
+  pub end-inside : Refuses (spoken Groups e) (0x0b ∷ 0x0a ∷ 0x05 ∷ 0x08 ∷ [])
+      (refused field-overflow (3 ∷ 5 ∷ 1 ∷ []) 3 [])
+  -- `0b 08`: 1; at 2. `0b 80`: 1; at 1. `0b 8c 00`: 3; at 1
+  pub varint-inside : Refuses (spoken Groups e) (0x0b ∷ 0x08 ∷ []) (refused buffer-too-short [] 2 [])
+      × Refuses (spoken Groups e) (0x0b ∷ 0x80 ∷ []) (refused buffer-too-short [] 1 [])
+      × Refuses (spoken Groups e) (0x0b ∷ 0x8c ∷ 0x00 ∷ []) (refused non-canonical [] 1 [])
+  -- `12 02 0b 0c`: re-encodes itself; sign bytes: the prefix alone. The first mode refuses by 5: type 3, offset 1; at 3
+  -- in 2
+  pub kept : EncodesAs (spoken Groups e) (0x12 ∷ 0x02 ∷ 0x0b ∷ 0x0c ∷ []) (0x12 ∷ 0x02 ∷ 0x0b ∷ 0x0c ∷ [])
+      × ((out : List ℕ) → Writes signPrefix out
+      (messageTold (signAnswer (spoken Groups e) (0x12 ∷ 0x02 ∷ 0x0b ∷ 0x0c ∷ []) 0 out))
+      (signLeft (spoken Groups e) (0x12 ∷ 0x02 ∷ 0x0b ∷ 0x0c ∷ []) 0 out))
+      × Refuses (spoken Plain e) (0x12 ∷ 0x02 ∷ 0x0b ∷ 0x0c ∷ [])
+      (refused unsupported-wire-type (3 ∷ 1 ∷ []) 3 (2 ∷ []))
+  -- `12 08 0a 01 42 0b 0a 01 41 0c`: from `42`; re-encodes itself; sign bytes: prefix, `0a 01 42`
+  pub other-from : ((t : List ℕ) → OneRecord (spoken Groups e) groupBody groupRow groupRpc t)
+      × EncodesAs (spoken Groups e) groupBody groupBody
+      × ((out : List ℕ) → Writes (signPrefix ++ (0x0a ∷ 0x01 ∷ 0x42 ∷ [])) out
+      (messageTold (signAnswer (spoken Groups e) groupBody 0 out)) (signLeft (spoken Groups e) groupBody 0 out))
+  -- `1a 02 0b 0c`: `1a 00`
+  pub in-control : EncodesAs (spoken Groups e) (0x1a ∷ 0x02 ∷ 0x0b ∷ 0x0c ∷ []) (0x1a ∷ 0x00 ∷ [])
+  -- `0a 05 0b 12 01 ff 0c`: `0a 00`
+  pub text-inside : EncodesAs (spoken Groups e) (0x0a ∷ 0x05 ∷ 0x0b ∷ 0x12 ∷ 0x01 ∷ 0xff ∷ 0x0c ∷ []) (0x0a ∷ 0x00 ∷ [])
+  -- `0b 10 96 01 0c 1a 00`: `1a 00`
+  pub before-control : EncodesAs (spoken Groups e) (0x0b ∷ 0x10 ∷ 0x96 ∷ 0x01 ∷ 0x0c ∷ 0x1a ∷ 0x00 ∷ [])
+      (0x1a ∷ 0x00 ∷ [])
+  -- `2a 01 0b`: accepted, and re-encodes empty
+  pub opaque : EncodesAs (spoken Groups e) (0x2a ∷ 0x01 ∷ 0x0b ∷ []) []
+
+abbrev groupRecord : Record
+groupRecord =
+    record {
+      kind = kind.RawMessage;
+      start = 2;
+      end = 10;
+      slots =
+          record {
+            number = number.Absent;
+            first = place.Present 2 3;
+            second = place.Absent;
+            third = place.Absent;
+            fourth = place.Absent;
+            fifth = place.Absent;
+          };
+    }
+
+pub rows-groups : (e : Edition) → GroupRows e
+unfolding uvarint bytesOf readUvarint readFrom groupOf isUtf8 run readTag readLen readVarint skipFixed skipValue passed
+    skipFrom skipGroup skipField readValue readField walkFrom walkAt tag bytesField varintField roleOf rank ownOf
+    textCount textSpot toDepth overKinds counted spotIn bodyRecords setPlace withField slotsOf hasField hasControl placed
+    slotIn numbered ownPart heldPart canon entriesOf mergedOf bodyPart canonBody signOf messageAt ownRows rowsOf
+    numberWords placeWords placesWords wordsOf kindCode readBack declines
+rows-groups e =
+    record {
+      dropped = (
+        encodes-by (spoken Groups e) (0x0b ∷ 0x0c ∷ []) [] 0 refl refl,
+        encodes-by (spoken Groups e) (0x1b ∷ 0x1c ∷ []) [] 0 refl refl,
+        encodes-by (spoken Groups e) (0x83 ∷ 0x01 ∷ 0x84 ∷ 0x01 ∷ []) [] 0 refl refl,
+        encodes-by (spoken Groups e) (0x0b ∷ 0x13 ∷ 0x14 ∷ 0x0c ∷ []) [] 0 refl refl,
+      );
+      left-open = (
+        refuses-by (spoken Groups e) (0x0b ∷ []) (nowhere GroupOpen) refl,
+        refuses-by (spoken Groups e) (0x0b ∷ 0x08 ∷ 0x01 ∷ []) (nowhere GroupOpen) refl,
+        refuses-by (spoken Groups e) (0x1a ∷ 0x01 ∷ 0x0b ∷ 0x0c ∷ []) (nowhere GroupOpen) refl,
+      );
+      not-open = (
+        refuses-by (spoken Groups e) (0x0c ∷ []) (nowhere EndGroup) refl,
+        refuses-by (spoken Groups e) (0x0b ∷ 0x14 ∷ []) (nowhere EndGroup) refl,
+        refuses-by (spoken Groups e) (0x0b ∷ 0x13 ∷ 0x0c ∷ []) (nowhere EndGroup) refl,
+        refuses-by (spoken Groups e) (0x0b ∷ 0x0c ∷ 0x0c ∷ []) (nowhere EndGroup) refl,
+        refuses-by (spoken Groups e) (0x12 ∷ 0x01 ∷ 0x0c ∷ []) (nowhere EndGroup) refl,
+      );
+      deepest = (
+        encodes-by (spoken Groups e) (replicate 32 0x0b ++ replicate 32 0x0c) [] 0 refl refl,
+        encodes-by (spoken Groups e) (0x1a ∷ 0x40 ∷ replicate 32 0x0b ++ replicate 32 0x0c) (0x1a ∷ 0x00 ∷ []) 0 refl
+            (same-canon Groups e V11 (0x1a ∷ 0x40 ∷ replicate 32 0x0b ++ replicate 32 0x0c) refl),
+      );
+      too-deep = (
+        refuses-by (spoken Groups e) (replicate 33 0x0b ++ replicate 33 0x0c) (nowhere GroupDepth) refl,
+        refuses-by (spoken Groups e) (replicate 33 0x0b) (nowhere GroupDepth) refl,
+      );
+      deep-number = (
+        refuses-by (spoken Groups e) (replicate 32 0x0b ++ (0x03 ∷ [])) (at (InvalidFieldNumber 0 32) 32 []) refl,
+        refuses-by (spoken Groups e) (replicate 32 0x0b) (nowhere GroupOpen) refl,
+      );
+      number-inside = refuses-by (spoken Groups e) (0x0b ∷ 0x04 ∷ []) (at (InvalidFieldNumber 0 1) 1 []) refl;
+      type-inside = refuses-by (spoken Groups e) (0x0b ∷ 0x0e ∷ []) (at (UnsupportedWireType 6 2) 2 []) refl;
+      end-inside = refuses-by (spoken Groups e) (0x0b ∷ 0x0a ∷ 0x05 ∷ 0x08 ∷ []) (at (FieldOverflow 3 5 1) 3 []) refl;
+      varint-inside = (
+        refuses-by (spoken Groups e) (0x0b ∷ 0x08 ∷ []) (at (Varint BufferTooShort 2) 2 []) refl,
+        refuses-by (spoken Groups e) (0x0b ∷ 0x80 ∷ []) (at (Varint BufferTooShort 1) 1 []) refl,
+        refuses-by (spoken Groups e) (0x0b ∷ 0x8c ∷ 0x00 ∷ []) (at (Varint NonCanonical 1) 1 []) refl,
+      );
+      kept = (
+        encodes-by (spoken Groups e) (0x12 ∷ 0x02 ∷ 0x0b ∷ 0x0c ∷ []) (0x12 ∷ 0x02 ∷ 0x0b ∷ 0x0c ∷ []) 1 refl refl,
+        signs-by (spoken Groups e) (0x12 ∷ 0x02 ∷ 0x0b ∷ 0x0c ∷ []) signPrefix 1 0 2 4 refl refl refl,
+        refuses-by (spoken Plain e) (0x12 ∷ 0x02 ∷ 0x0b ∷ 0x0c ∷ []) (at (UnsupportedWireType 3 1) 3 (2 ∷ [])) refl,
+      );
+      other-from = (
+        one-by (spoken Groups e) groupBody groupRow groupRpc groupRecord refl refl refl refl refl refl refl,
+        encodes-by (spoken Groups e) groupBody groupBody 1 refl refl,
+        signs-by (spoken Groups e) groupBody (signPrefix ++ (0x0a ∷ 0x01 ∷ 0x42 ∷ [])) 1 0 2 10 refl refl refl,
+      );
+      in-control = encodes-by (spoken Groups e) (0x1a ∷ 0x02 ∷ 0x0b ∷ 0x0c ∷ []) (0x1a ∷ 0x00 ∷ []) 0 refl
+          (same-canon Groups e V11 (0x1a ∷ 0x02 ∷ 0x0b ∷ 0x0c ∷ []) refl);
+      text-inside = encodes-by (spoken Groups e) (0x0a ∷ 0x05 ∷ 0x0b ∷ 0x12 ∷ 0x01 ∷ 0xff ∷ 0x0c ∷ [])
+          (0x0a ∷ 0x00 ∷ []) 1 refl refl;
+      before-control = encodes-by (spoken Groups e) (0x0b ∷ 0x10 ∷ 0x96 ∷ 0x01 ∷ 0x0c ∷ 0x1a ∷ 0x00 ∷ [])
+          (0x1a ∷ 0x00 ∷ []) 0 refl
+          (same-canon Groups e V11 (0x0b ∷ 0x10 ∷ 0x96 ∷ 0x01 ∷ 0x0c ∷ 0x1a ∷ 0x00 ∷ []) refl);
+      opaque = encodes-by (spoken Groups e) (0x2a ∷ 0x01 ∷ 0x0b ∷ []) [] 0 refl refl;
+    }
