@@ -470,7 +470,7 @@ module _ (mode : Mode) (n : ℕ) (h : n ≤ 512) where
   ids-older : bodyRecords (spoken mode V11) (encodeRpc (idsRpc n)) ≡ tested.Records 0
   unfolding recordsIn
   ids-older = records-within
-      (record { means = older mode ids-mean; small = omega (arith, ids-short); few = omega arith })
+      (record { means = older ids-mean; small = omega (arith, ids-short); few = omega arith })
 
 pub rows-full : (mode : Mode) →
     (bodyRecords (spoken mode V11) (encodeRpc (idsRpc 511)) ≡ tested.Records 0)
