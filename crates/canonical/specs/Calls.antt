@@ -127,15 +127,15 @@ module _ (d : Dialect) (s out : List ℕ) (b : Bytes s) (R : Rpc → Told → Li
   given Fine e = let w = taken-exactly d s b .0 e in takes (w .1) (fine (w .0) (w .1))
 
   -- it is 0, 12 or more exactly where the body means an RPC within capacity
-  given-takes : ((x : Rpc) (a : Told) (l : List ℕ) → R x a l → Gated (a .number) → ⊥)
-      → (Gated (tell (acceptOf d s) .number) → ⊥) ↔ ((x : Rpc) × Within d s x)
+  given-takes : ((x : Rpc) (a : Told) (l : List ℕ) → R x a l → Gated (d .mode) (a .number) → ⊥)
+      → (Gated (d .mode) (tell (acceptOf d s) .number) → ⊥) ↔ ((x : Rpc) × Within d s x)
   given-takes other = (λ h. forth h (given (acceptOf d s) refl), λ w g. back (w .1) g (given (acceptOf d s) refl))
     where
-      forth : {a : Told} {l : List ℕ} → (Gated (a .number) → ⊥) → Given d s out R a l → (x : Rpc) × Within d s x
+      forth : {a : Told} {l : List ℕ} → (Gated (d .mode) (a .number) → ⊥) → Given d s out R a l → (x : Rpc) × Within d s x
       forth h (refuses r) = absurd (h (refusal-gated r))
       forth h (takes {x} w r) = (x, w)
 
-      back : {x : Rpc} {a : Told} {l : List ℕ} → Within d s x → Gated (a .number) → Given d s out R a l → ⊥
+      back : {x : Rpc} {a : Told} {l : List ℕ} → Within d s x → Gated (d .mode) (a .number) → Given d s out R a l → ⊥
       back w g (refuses r) = refusal-within r w
       back {a = a} {l = l} w g (takes {x} v r) = other x a l r g
 
@@ -169,9 +169,10 @@ encode-only {d} {s} {x} {a} {l} out w r =
     (sym (canon-written (w .means)))
     (writes-only (λ z. encodedTold (ofWritten z)) (λ n. refl) (λ n. refl) (encodeRpc x) out r)
 
-writes-other : {xs out : List ℕ} {a : Told} {l : List ℕ} → Writes xs out a l → Gated (a .number) → ⊥
+writes-other : {mode : Mode} {xs out : List ℕ} {a : Told} {l : List ℕ} → Writes xs out a l
+    → Gated mode (a .number) → ⊥
 writes-other (fits h) g = let z = gated-bound g in omega (arith, z .0)
-writes-other (short h) g = let z = gated-bound g in omega (arith, z .1)
+writes-other (short h) g = gated-bound g .1 refl
 
 -- encode tells a and leaves l exactly where the scope has it do so
 pub encode-exactly : (d : Dialect) (s out : List ℕ) (a : Told) (l : List ℕ) → Bytes s
@@ -182,7 +183,7 @@ encode-exactly d s out a l b =
     (encodedChecked d s out) (λ why. refl) (λ why. refl) (λ x. encode-fine out) (λ x z k. encode-only out) a l
 
 -- it tells none of 10, 1 to 7, 14 to 16 and 11 exactly where the body means an RPC within capacity
-pub encode-takes : (d : Dialect) (s out : List ℕ) → Bytes s → (Gated (encodedTold (encodeAnswer d s out) .number) → ⊥)
+pub encode-takes : (d : Dialect) (s out : List ℕ) → Bytes s → (Gated (d .mode) (encodedTold (encodeAnswer d s out) .number) → ⊥)
     ↔ ((x : Rpc) × Within d s x)
 unfolding encodeAnswer
 encode-takes d s out b =
@@ -250,10 +251,10 @@ module _ {d : Dialect} {s : List ℕ} {x : Rpc} (i : ℕ) (out : List ℕ) (w : 
       (sym (sign-written (d .mode) g))
       (writes-only (λ z. messageTold (message z)) (λ n. refl) (λ n. refl) (signBytes m) out r))
 
-of-message-other : {i : ℕ} {ms : List RawMessage} {out : List ℕ} {R : RawMessage → Told → List ℕ → Type 0} {a : Told}
-    {l : List ℕ} → ((m : RawMessage) (z : Told) (k : List ℕ) → R m z k → Gated (z .number) → ⊥)
-    → OfMessage i ms out R a l → Gated (a .number) → ⊥
-of-message-other other (no-such h) g = let z = gated-bound g in omega (arith, z .1)
+of-message-other : {mode : Mode} {i : ℕ} {ms : List RawMessage} {out : List ℕ} {R : RawMessage → Told → List ℕ → Type 0} {a : Told}
+    {l : List ℕ} → ((m : RawMessage) (z : Told) (k : List ℕ) → R m z k → Gated mode (z .number) → ⊥)
+    → OfMessage i ms out R a l → Gated mode (a .number) → ⊥
+of-message-other other (no-such h) g = let z = gated-bound g in omega (arith, z .3)
 of-message-other {a = a} {l = l} other (such {m} n r) g = other m a l r g
 
 -- sign_bytes tells a and leaves l exactly where the scope has it do so
@@ -266,7 +267,7 @@ sign-exactly d s i out a l b =
     (λ x. sign-fine i out) (λ x z k w q. sign-only i out w q) a l
 
 pub sign-takes : (d : Dialect) (s : List ℕ) (i : ℕ) (out : List ℕ) → Bytes s
-    → (Gated (messageTold (signAnswer d s i out) .number) → ⊥) ↔ ((x : Rpc) × Within d s x)
+    → (Gated (d .mode) (messageTold (signAnswer d s i out) .number) → ⊥) ↔ ((x : Rpc) × Within d s x)
 unfolding signAnswer
 sign-takes d s i out b =
     given-takes d s out b (λ x. OfMessage i (x .publish) out (λ m. Writes (signBytes m) out))
@@ -353,10 +354,11 @@ module _ {d : Dialect} {s : List ℕ} {x : Rpc} (pre : List ℕ) (i : ℕ) (out 
       (λ a e m g r. id-only pre (between s a e) out (idParts (d .mode) (between s a e))
       (subst (λ (n : Id). WritesId pre out n t l) (sym (id-same (d .mode) g)) r))
 
-id-other : {pre out : List ℕ} {n : Id} {a : Told} {l : List ℕ} → WritesId pre out n a l → Gated (a .number) → ⊥
-id-other from-missing g = let z = gated-bound g in omega (arith, z .1)
-id-other from-invalid g = let z = gated-bound g in omega (arith, z .1)
-id-other seqno-invalid g = let z = gated-bound g in omega (arith, z .1)
+id-other : {mode : Mode} {pre out : List ℕ} {n : Id} {a : Told} {l : List ℕ} → WritesId pre out n a l
+    → Gated mode (a .number) → ⊥
+id-other from-missing g = let z = gated-bound g in omega (arith, z .3)
+id-other from-invalid g = let z = gated-bound g in omega (arith, z .3)
+id-other seqno-invalid g = let z = gated-bound g in omega (arith, z .3)
 id-other (writes-id r) g = writes-other r g
 
 -- message_id and seen_message_id tell a and leave l exactly where the scope has them do so
@@ -369,7 +371,7 @@ id-exactly pre d s i out a l b =
     (λ x. id-fine pre i out) (λ x z k w q. id-told pre i out w q) a l
 
 pub id-takes : (pre : List ℕ) (d : Dialect) (s : List ℕ) (i : ℕ) (out : List ℕ) → Bytes s
-    → (Gated (messageTold (idAnswer pre d s i out) .number) → ⊥) ↔ ((x : Rpc) × Within d s x)
+    → (Gated (d .mode) (messageTold (idAnswer pre d s i out) .number) → ⊥) ↔ ((x : Rpc) × Within d s x)
 unfolding idAnswer
 id-takes pre d s i out b =
     given-takes d s out b (λ x. OfMessage i (x .publish) out (λ m. WritesId pre out (messageId m)))
