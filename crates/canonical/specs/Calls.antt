@@ -1,8 +1,8 @@
 -- What the calls that write tell and leave, by the scope's numbers and the values beside them, said of the RPC that the
 -- body means and of nothing else, one exact theorem for each call. A body is refused by 10, by 1 to 7, by 14 to 16
 -- where groups are passed over, or by 11, and nothing is changed; or it means an RPC within capacity. Then `encode`
--- writes that RPC, `sign_bytes` what is signed of its message i, `message_id` and `seen_message_id` that message's id; 20
--- where there is no message i; 12 where there is no room.
+-- writes that RPC, `sign_bytes` what is signed of its message i, `message_id` and `seen_message_id` that message's id;
+-- 20 where there is no message i; 12 where there is no room.
 use Prim.Native.Nat.{ℕ, _+_, _-_, _≤_, _<_}
 use mathlib.Core.Path.{_≡_, refl, sym, ap, ap₂, subst, _∙_}
 use mathlib.Core.Bool.{_||_}
