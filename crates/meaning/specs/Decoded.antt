@@ -309,11 +309,11 @@ refusal-gated (is-wrong {why = why} h i) = early-number (wire-range why .0) (ref
 refusal-gated (has-many h i l) = many-number
 
 -- so 0, 12, 13 and all above 16 are none of them
-pub gated-bound : {mode : Mode} {n : ℕ} → Gated mode n → (0 < n) × (n ≢ 12) × (n ≢ 13) × (n ≤ 16)
-gated-bound large-number = (omega arith, λ e. omega arith, λ e. omega arith, omega arith)
-gated-bound (early-number p (low q)) = (p, λ e. omega arith, λ e. omega arith, omega arith)
-gated-bound (early-number p (of-group l u)) = (p, λ e. omega arith, λ e. omega arith, u)
-gated-bound many-number = (omega arith, λ e. omega arith, λ e. omega arith, omega arith)
+pub gated-bound : {mode : Mode} {n : ℕ} → Gated mode n → (0 < n) × ((n ≢ 12) × (n ≢ 13) × (n ≤ 16))
+gated-bound large-number = (omega arith, (λ e. omega arith, λ e. omega arith, omega arith))
+gated-bound (early-number p (low q)) = (p, (λ e. omega arith, λ e. omega arith, omega arith))
+gated-bound (early-number p (of-group l u)) = (p, (λ e. omega arith, λ e. omega arith, u))
+gated-bound many-number = (omega arith, (λ e. omega arith, λ e. omega arith, omega arith))
 
 -- a body that is within capacity is not refused
 pub refusal-within : {d : Dialect} {s : List ℕ} {a : Told} {x : Rpc} → Refusal d s a → Within d s x → ⊥

@@ -84,22 +84,27 @@ plain-sub-opts (is-sub-opts g h) = is-sub-opts (plain-body g) h
 pub plain-message : {s : List ℕ} {m : RawMessage} → IsMessage Plain s m → IsMessage Groups s m
 plain-message (is-message g h) = is-message (plain-body g) h
 
--- what stands in a control
+-- an IHAVE
 pub plain-ihave : {s : List ℕ} {x : ControlIHave} → IsIHave Plain s x → IsIHave Groups s x
 plain-ihave (is-ihave g h) = is-ihave (plain-body g) h
 
+-- an IWANT
 pub plain-iwant : {s : List ℕ} {x : ControlIWant} → IsIWant Plain s x → IsIWant Groups s x
 plain-iwant (is-iwant g) = is-iwant (plain-body g)
 
+-- a GRAFT
 pub plain-graft : {s : List ℕ} {x : ControlGraft} → IsGraft Plain s x → IsGraft Groups s x
 plain-graft (is-graft g h) = is-graft (plain-body g) h
 
+-- a peer of a PRUNE
 pub plain-peer-info : {s : List ℕ} {x : PeerInfo} → IsPeerInfo Plain s x → IsPeerInfo Groups s x
 plain-peer-info (is-peer-info g) = is-peer-info (plain-body g)
 
+-- a PRUNE
 pub plain-prune : {s : List ℕ} {x : ControlPrune} → IsPrune Plain s x → IsPrune Groups s x
 plain-prune (is-prune g h ps) = is-prune (plain-body g) h (pairs-of (λ x y. plain-peer-info) ps)
 
+-- an IDONTWANT
 pub plain-idontwant : {s : List ℕ} {x : ControlIDontWant} → IsIDontWant Plain s x → IsIDontWant Groups s x
 plain-idontwant (is-idontwant g) = is-idontwant (plain-body g)
 
@@ -125,10 +130,12 @@ same-meaning p q = one-rpc (plain-means p) q
 pub plain-within : {e : Edition} {s : List ℕ} {x : Rpc} → Within (spoken Plain e) s x → Within (spoken Groups e) s x
 plain-within w = record { means = plain-means (w .means); small = w .small; few = w .few }
 
--- ---- a message, and a body, that the first mode does not refuse by 5 with type 3 or 4
+-- ---- what the first mode does not refuse by 5 with type 3 or 4
+-- a message
 abbrev pub NoGroupIn : Kind → List ℕ → Type 0
 NoGroupIn k s = (why : WireError) → counted Plain k s ≡ count.Refused why → ByGroup why → ⊥
 
+-- a body
 abbrev pub NoGroupBody : Edition → List ℕ → Type 0
 NoGroupBody e s = (r : Placed) → bodyRecords (spoken Plain e) s ≡ tested.Refused r → ByGroup (r .why) → ⊥
 
@@ -218,7 +225,7 @@ same-along k s (goes {f} {v} {w} {m} q a) ih =
     (λ j form p u. ih j p (sub-rank k j form (f .field) (f .«wire_type») u)))
     (same-along k s a ih)
 
--- the same number of records, or the same refusal
+-- such a message has the same number of records in both modes, or the same refusal
 pub same-counted : (k : Kind) (s : List ℕ) → NoGroupIn k s → counted Groups k s ≡ counted Plain k s
 same-counted =
     by-rank (λ k. (s : List ℕ) → NoGroupIn k s → counted Groups k s ≡ counted Plain k s)
@@ -333,7 +340,7 @@ along-spot k s (goes {f} {v} {w} {m} q a) ih =
     (λ j form p u. ih j p (sub-rank k j form (f .field) (f .«wire_type») u)))
     (along-spot k s a ih)
 
--- at the same place
+-- such a message is refused at the same place
 pub same-spot : (k : Kind) (s : List ℕ) → NoGroupIn k s → spotIn Groups k s ≡ spotIn Plain k s
 same-spot =
     by-rank (λ k. (s : List ℕ) → NoGroupIn k s → spotIn Groups k s ≡ spotIn Plain k s)
@@ -349,18 +356,18 @@ along-passes k s (f then w) n h =
     let t = then-fits (roleCount (counted Plain) s f (RoleAt k f)) (countAlong (counted Plain) k s w) n h in
     along-passes k s w (t .1) (t .3)
 
--- its fields
+-- the same fields
 pub same-fields : (k : Kind) (s : List ℕ) (n : ℕ) → counted Plain k s ≡ count.Records n
     → fieldsOf Groups s ≡ fieldsOf Plain s
 same-fields k s n h = same-walk s 0 (along-passes k s (fieldsOf Plain s) n (sym (count-along Plain k s) ∙ h))
 
--- its singular fields
+-- the same singular fields
 pub same-slots : (k : Kind) (s : List ℕ) (n : ℕ) → counted Plain k s ≡ count.Records n
     → slotsOf Groups k s ≡ slotsOf Plain k s
 unfolding slotsOf
 same-slots k s n h = ap (slotsAlong k noSlots) (same-fields k s n h)
 
--- whether a field is there
+-- a field is there in both or in neither
 pub same-has : (k : Kind) (s : List ℕ) (n m : ℕ) → counted Plain k s ≡ count.Records n
     → hasField Groups m s ≡ hasField Plain m s
 unfolding hasField
@@ -401,7 +408,7 @@ own-rows : (k : Kind) (base : ℕ) (s : List ℕ) (n : ℕ) → counted Plain k 
 unfolding ownRows
 own-rows k base s n h = rw (same-slots k s n h) refl
 
--- its records
+-- the same records
 pub same-rows : (k : Kind) (base : ℕ) (s : List ℕ) (n : ℕ) → counted Plain k s ≡ count.Records n
     → rowsOf Groups k base s ≡ rowsOf Plain k base s
 same-rows =
@@ -428,12 +435,12 @@ of-gate e s _ (many h n q l) g =
 of-gate e s _ (passes h n q l) g =
     records-taken (spoken Groups e) s n h (same-counted (kind.Rpc e) s (λ w u. clash (cc)) ∙ q) l
 
--- the same number of records, or the same refusal at the same place
+-- such a body has the same number of records in both modes, or the same refusal at the same place
 pub same-records : (e : Edition) (s : List ℕ) → NoGroupBody e s
     → bodyRecords (spoken Groups e) s ≡ bodyRecords (spoken Plain e) s
 same-records e s g = of-gate e s (bodyRecords (spoken Plain e) s) (gate (spoken Plain e) s) g
 
--- the test of a body
+-- so it is accepted by both or by neither
 pub same-accept : (e : Edition) (s : List ℕ) → NoGroupBody e s
     → acceptOf (spoken Groups e) s ≡ acceptOf (spoken Plain e) s
 unfolding acceptOf
@@ -459,7 +466,7 @@ answer-by e s room _ (many h n q l) = refl
 answer-by e s room _ (passes h n q l) =
     ap (λ (c : Bool). onCount room c (tested.Records n)) (same-has (kind.Rpc e) s n 3 q)
 
--- `decode` answers the same
+-- `decode` answers the same of it
 pub same-answer : (e : Edition) (s : List ℕ) (words : ℕ) → NoGroupBody e s
     → decodeAnswer (spoken Groups e) s words ≡ decodeAnswer (spoken Plain e) s words
 unfolding decodeAnswer
