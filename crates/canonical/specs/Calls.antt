@@ -173,7 +173,7 @@ encode-only {d} {s} {x} {a} {l} out w r =
 writes-other : {mode : Mode} {xs out : List ℕ} {a : Told} {l : List ℕ} → Writes xs out a l
     → Gated mode (a .number) → ⊥
 writes-other (fits h) g = let z = gated-bound g in omega (arith, z .0)
-writes-other (short h) g = gated-bound g .1 refl
+writes-other (short h) g = let z = gated-bound g in omega (arith, z .1)
 
 -- encode tells a and leaves l exactly where the scope has it do so
 pub encode-exactly : (d : Dialect) (s out : List ℕ) (a : Told) (l : List ℕ) → Bytes s
@@ -261,7 +261,7 @@ of-message-other : {mode : Mode} {i : ℕ} {ms : List RawMessage} {out : List �
     {R : RawMessage → Told → List ℕ → Type 0} {a : Told} {l : List ℕ}
     → ((m : RawMessage) (z : Told) (k : List ℕ) → R m z k → Gated mode (z .number) → ⊥)
     → OfMessage i ms out R a l → Gated mode (a .number) → ⊥
-of-message-other other (no-such h) g = let z = gated-bound g in omega (arith, z .3)
+of-message-other other (no-such h) g = let z = gated-bound g in omega (arith, z .1)
 of-message-other {a = a} {l = l} other (such {m} n r) g = other m a l r g
 
 -- sign_bytes tells a and leaves l exactly where the scope has it do so
@@ -366,9 +366,9 @@ module _ {d : Dialect} {s : List ℕ} {x : Rpc} (pre : List ℕ) (i : ℕ) (out 
 
 id-other : {mode : Mode} {pre out : List ℕ} {n : Id} {a : Told} {l : List ℕ} → WritesId pre out n a l
     → Gated mode (a .number) → ⊥
-id-other from-missing g = let z = gated-bound g in omega (arith, z .3)
-id-other from-invalid g = let z = gated-bound g in omega (arith, z .3)
-id-other seqno-invalid g = let z = gated-bound g in omega (arith, z .3)
+id-other from-missing g = let z = gated-bound g in omega (arith, z .1)
+id-other from-invalid g = let z = gated-bound g in omega (arith, z .1)
+id-other seqno-invalid g = let z = gated-bound g in omega (arith, z .1)
 id-other (writes-id r) g = writes-other r g
 
 -- message_id and seen_message_id tell a and leave l exactly where the scope has them do so
