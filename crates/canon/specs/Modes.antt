@@ -34,8 +34,8 @@ use Rattle.meaning.specs.Modes.{same-fields, same-slots, same-has}
 use Rattle.ids.specs.declared.MessageAt.the-variants.{At}
 use Rattle.ids.specs.Ids.{messageAlong, messageAt}
 use Rattle.rpc.specs.Encode.{signPrefix}
-use Rattle.canon.specs.Canon.{ownPart, eachAlong, eachOf, heldPart, partWith, canon, entriesOf, mergedOf, bodyPart}
-use Rattle.canon.specs.Canon.{canonBody, signOf}
+use Rattle.canon.specs.Canon.{ownPart, eachAlong, eachOf, heldPart, partWith, canon, entriesOf, mergedOf}
+use Rattle.canon.specs.Canon.{bodyPart, canonBody, signOf}
 use Rattle.canon.specs.CanonLaws.{same-order, canon-fields}
 
 -- how the first mode counts a field of a message
@@ -76,22 +76,22 @@ sub-accepted k j form m s f x h t q =
 -- ---- what is written of each field m, by g in one mode and by h in the other
 module _ (k : Kind) (s : List ℕ) (m : ℕ) (g h : List ℕ → List ℕ)
     (same : (f : Field) (x : ℕ) → isBytes m f ≡ true → countAt k s f ≡ Records x → g (valueIn s f) ≡ h (valueIn s f))
-    where
-  each-along : (w : Fields) (n : ℕ) → countAlong (counted Plain) k s w ≡ Records n
-      → eachAlong g m s w ≡ eachAlong h m s w
-  each-along end n q = refl
-  each-along (refused why) n q = refl
-  each-along (f then w) n q =
-      let t = then-fits (countAt k s f) (countAlong (counted Plain) k s w) n q in
-      let ih = each-along w (t .1) (t .3) in
-      either (isBytes m f)
-      (λ b. ap₂ (λ (x y : List ℕ). cond (isBytes m f) x [] ++ y) (same f (t .0) b (t .2)) ih)
-      (λ b. simp b ih)
+  where
+    each-along : (w : Fields) (n : ℕ) → countAlong (counted Plain) k s w ≡ Records n
+        → eachAlong g m s w ≡ eachAlong h m s w
+    each-along end n q = refl
+    each-along (refused why) n q = refl
+    each-along (f then w) n q =
+        let t = then-fits (countAt k s f) (countAlong (counted Plain) k s w) n q in
+        let ih = each-along w (t .1) (t .3) in
+        either (isBytes m f)
+        (λ b. ap₂ (λ (x y : List ℕ). cond (isBytes m f) x [] ++ y) (same f (t .0) b (t .2)) ih)
+        (λ b. simp b ih)
 
-  each-same : (n : ℕ) → counted Plain k s ≡ Records n → eachOf Groups g m s ≡ eachOf Plain h m s
-  each-same n q =
-      ap (eachAlong g m s) (same-fields k s n q)
-      ∙ each-along (fieldsOf Plain s) n (sym (count-along Plain k s) ∙ q)
+    each-same : (n : ℕ) → counted Plain k s ≡ Records n → eachOf Groups g m s ≡ eachOf Plain h m s
+    each-same n q =
+        ap (eachAlong g m s) (same-fields k s n q)
+        ∙ each-along (fieldsOf Plain s) n (sym (count-along Plain k s) ∙ q)
 
 -- ---- a message
 abbrev SameBytes : Kind → Type 0
@@ -170,4 +170,5 @@ placed-along e s (f then w) i k a z n h q =
 pub message-accepted : (e : Edition) (s : List ℕ) (n i a z : ℕ) → counted Plain (kind.Rpc e) s ≡ Records n
     → messageAt Plain s i ≡ At a z → (y : ℕ) × (counted Plain kind.RawMessage (between s a z) ≡ Records y)
 unfolding messageAt
-message-accepted e s n i a z q h = placed-along e s (fieldsOf Plain s) i 0 a z n h (sym (count-along Plain (kind.Rpc e) s) ∙ q)
+message-accepted e s n i a z q h =
+    placed-along e s (fieldsOf Plain s) i 0 a z n h (sym (count-along Plain (kind.Rpc e) s) ∙ q)
