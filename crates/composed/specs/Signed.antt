@@ -30,6 +30,7 @@ use Rattle.compose.specs.Compose.{listsOf, putAnswer, answering, leaving, write
 use Rattle.compose.specs.Told.{composedTold}
 use Rattle.compose.specs.Puts.{capped-small}
 use Rattle.composed.specs.WrittenRows.{both-fine, passed-of}
+use Rattle.composed.specs.Admitted.{weighed-small}
 
 -- ---- what is signed
 pub sign-bytes-are : (m : RawMessage) → signBytes m ≡ signPrefix ++ encodeFields m
@@ -99,19 +100,7 @@ unfolding putAnswer answer
 put-told xs out h =
     either (leb (length xs) (length out)) (λ t. simp t) (λ t. simp (t, capped-small (length xs) h))
 
--- a message that may be written has at most 4,096 bytes, and 14 more are signed
-weighed-small : (flags : ℕ) (m : RawMessage) → weighed flags m ≡ Fine → length (encodeMessage m) ≤ 4096
-unfolding weighed limitsFine sizeFine
-weighed-small flags m h =
-    let l = andThen (topicsFine (m .«topic_ids»)) (sizeFine (length (encodeMessage m))) in
-    let s = backedFine (allowsUnsigned flags) (given (m .from)) (m .signature) (m .key) in
-    let q = seqnoFine (given (m .seqno)) in
-    let a = both-fine (fromFine (m .from)) (andThen q (andThen s l)) h in
-    let b = both-fine q (andThen s l) (a .1) in
-    let c = both-fine s l (b .1) in
-    let d = both-fine (topicsFine (m .«topic_ids»)) (sizeFine (length (encodeMessage m))) (c .1) in
-    either (ltb 4096 (length (encodeMessage m))) (λ t. clash (let z = simp t at (d .1) in cc)) (λ t. ltb-false _ _ t)
-
+-- 14 bytes more than a message has are signed
 sign-small : (m : RawMessage) → length (encodeMessage m) ≤ 4096 → length (signBytes m) ≤ 18446744073709551615
 unfolding encodeMessage
 sign-small m h = rw (sign-bytes-are m) (omega (arith, simp length-append at h, length-append signPrefix (encodeFields m)))
