@@ -2,33 +2,37 @@
 -- `sign_fields` gives before there is a signature are those that `sign_bytes` finds in every dialect in a body written
 -- with any.
 use Prim.Native.Nat.{ℕ, _≤_}
-use mathlib.Core.Path.{_≡_, refl, sym, ap, _∙_}
-use mathlib.Core.List.{List, _∷_, _++_, map}
+use mathlib.Core.Path.{_≡_, refl, sym, ap, subst, _∙_}
+use mathlib.Core.List.{List, _∷_, _++_, map, append-nil}
 use native.Mathlib.Omega.{arith}
 use lib.ListN.{length, drop, length-append}
-use lib.Dec.{ltb, leb}
-use borrow.Author.Tests.{ltb-false}
+use lib.Dec.{leb}
+use Rattle.basis.specs.declared.Mode.the-variants.{Plain}
 use Rattle.basis.specs.declared.Dialect.{Dialect}
-use Rattle.basis.specs.Cases.{either, clash}
+use Rattle.basis.specs.Cases.{either}
 use Rattle.basis.specs.Writing.{answer, written}
+use Rattle.utf8.specs.Grammar.{Utf8}
 use Rattle.ids.specs.Ids.{messageAt, ofWritten}
 use Rattle.ids.specs.Told.{messageTold}
 use Rattle.rpc.specs.Rpc.{RawMessage, Rpc}
+use Rattle.rpc.specs.Grammar.{Each, IsMessage}
 use Rattle.rpc.specs.Encode.{signPrefix, signBytes}
 use Rattle.meaning.specs.Decoded.{Within}
 use Rattle.canon.specs.Taken.{taken}
 use Rattle.canon.specs.Written.{sign-written}
 use Rattle.canon.specs.Messages.{Nth, here, there}
+use Rattle.canonical.specs.Means.{Sized}
+use Rattle.canonical.specs.Modes.{unsigned}
 use Rattle.canonical.specs.Calls.{found-in}
 use Rattle.encode.specs.Sign as body
 use Rattle.compose.specs.declared.Lists.the-variants.{Fine}
 use Rattle.compose.specs.Lent.{lentRows}
 use Rattle.compose.specs.Said.{encodeFields, encodeMessage, renewed, messagesIn, said}
-use Rattle.admission.specs.Flags.{allowsUnsigned}
-use Rattle.compose.specs.Weighed.{andThen, given, fromFine, seqnoFine, backedFine, topicsFine, sizeFine, limitsFine, weighed, firstUnfit}
+use Rattle.compose.specs.Weighed.{weighed, firstUnfit}
 use Rattle.compose.specs.Compose.{listsOf, putAnswer, answering, leaving, writeTested, signAt, signedAt, signAnswer, signLeft}
 use Rattle.compose.specs.Told.{composedTold}
 use Rattle.compose.specs.Puts.{capped-small}
+use Rattle.composed.specs.Means.{message-body}
 use Rattle.composed.specs.WrittenRows.{both-fine, passed-of}
 use Rattle.composed.specs.Admitted.{weighed-small}
 
@@ -36,6 +40,16 @@ use Rattle.composed.specs.Admitted.{weighed-small}
 pub sign-bytes-are : (m : RawMessage) → signBytes m ≡ signPrefix ++ encodeFields m
 unfolding signBytes encodeFields
 sign-bytes-are m = refl
+
+-- and hold no group: after the prefix they are fields of the first mode, of a message with neither signature nor key
+pub sign-plain : (m : RawMessage) → Sized (encodeFields m) → Each Utf8 (m .«topic_ids»)
+    → IsMessage Plain (encodeFields m) (unsigned (encodeFields m) m)
+unfolding encodeMessage encodeFields
+sign-plain m k u =
+    let b = encodeFields m in
+    let e = append-nil b in
+    subst (λ (x : List ℕ). IsMessage Plain x (unsigned x m)) e
+    (message-body Plain (unsigned b m) (subst Sized (sym e) k) u)
 
 -- two messages with the same from, data, seqno and topics
 pub record SameFields (m n : RawMessage) : Type 0 where
