@@ -362,8 +362,8 @@ weighed-small flags m h =
     let d = both-fine (topicsFine (m .«topic_ids»)) (sizeFine (length (encodeMessage m))) (c .1) in
     either (ltb 4096 (length (encodeMessage m))) (λ t. clash (let z = simp t at (d .1) in cc)) (λ t. ltb-false _ _ t)
 
--- its topics are UTF-8 where it stands in an RPC that is meant in some dialect; so its bytes, which hold no group, mean it in
--- every mode
+-- its topics are UTF-8 where it stands in an RPC that is meant in some dialect; so its bytes, which hold no group, mean
+-- it in every mode
 publish-texts : {d : Dialect} {w : List ℕ} {x : Rpc} → IsRpc d w x
     → Each (λ (m : RawMessage). Each Utf8 (m .«topic_ids»)) (x .publish)
 publish-texts {d} (is-rpc g a b c) = pairs-each (message-plain (d .mode)) b
@@ -377,8 +377,8 @@ each-taken flags (m ∷ ms) h (u and us) =
     let l = weighed-small flags m (a .0) in
     weighed-taken flags m (message-body (modeOf flags) m (omega arith) u) (a .0) and each-taken flags ms (a .1) us
 
--- each message of the RPC that lists say is taken, where they are written: under any flags that allow the same of unsigned
--- messages, whichever mode is among them
+-- each message of the RPC that lists say is taken, where they are written: under any flags that allow the same of
+-- unsigned messages, whichever mode is among them
 pub written-admitted : {d : Dialect} (f g : ℕ) (t b w : List ℕ) → allowsUnsigned f ≡ allowsUnsigned g
     → writeTested f t b ≡ Fine → Within d w (said b (lentRows t))
     → Each (λ (m : RawMessage). Taken g (m .raw)) (said b (lentRows t) .publish)
