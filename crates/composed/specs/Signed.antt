@@ -81,16 +81,16 @@ module _ {d : Dialect} {w : List ℕ} {x : Rpc} (k : Within d w x) (i : ℕ) (m 
   body-tells : (out : List ℕ) → body.signAnswer d w i out ≡ ofWritten (answer (signBytes m) out)
   unfolding body.signAnswer
   body-tells out =
-      let f = found-in i (messageAt w i) (k .means) n refl in
-      ap (body.signChecked w i out) (taken k) ∙ ap (body.signAt w out) (f .2)
-      ∙ ap (λ (l : List ℕ). ofWritten (answer l out)) (sign-written (f .3))
+      let f = found-in i (messageAt (d .mode) w i) (k .means) n refl in
+      ap (body.signChecked (d .mode) w i out) (taken k) ∙ ap (body.signAt (d .mode) w out) (f .2)
+      ∙ ap (λ (l : List ℕ). ofWritten (answer l out)) (sign-written (d .mode) (f .3))
 
   body-leaves : (out : List ℕ) → body.signLeft d w i out ≡ written (signBytes m) out
   unfolding body.signLeft
   body-leaves out =
-      let f = found-in i (messageAt w i) (k .means) n refl in
-      ap (body.signedChecked w i out) (taken k) ∙ ap (body.signedAt w out) (f .2)
-      ∙ ap (λ (l : List ℕ). written l out) (sign-written (f .3))
+      let f = found-in i (messageAt (d .mode) w i) (k .means) n refl in
+      ap (body.signedChecked (d .mode) w i out) (taken k) ∙ ap (body.signedAt (d .mode) w out) (f .2)
+      ∙ ap (λ (l : List ℕ). written l out) (sign-written (d .mode) (f .3))
 
 -- ---- both tell the same of the same bytes, where a number of the machine counts them
 put-told : (xs out : List ℕ) → length xs ≤ 18446744073709551615

@@ -6,6 +6,8 @@ use mathlib.Core.Path.{_≡_, refl}
 use mathlib.Core.Bool.{Bool}
 use mathlib.Core.List.{List, [], _∷_, map}
 use lib.ListN.{length}
+use Rattle.basis.specs.declared.Mode.{Mode}
+use Rattle.basis.specs.Dialect.{modeOf}
 use Rattle.basis.specs.declared.Dialect.{Dialect}
 use Rattle.utf8.specs.Grammar.{Utf8}
 use Rattle.message.specs.Rows.{firstDialect}
@@ -39,10 +41,10 @@ renewed-same : (m : RawMessage) → encodeMessage m ≡ encodeMessage (renewed m
 unfolding encodeMessage encodeFields
 renewed-same m = refl
 
-each-means : (ms : List RawMessage) → Each (λ (m : RawMessage). Each Utf8 (m .«topic_ids»)) (map renewed ms)
-    → Each (λ (m : RawMessage). length (encodeMessage m) < 2 ^ 64 → IsMessage (encodeMessage m) (renewed m)) ms
-each-means [] none-left = none-left
-each-means (m ∷ ms) (u and us) = (λ l. message-means (renewed m) (renewed-same m) l u) and each-means ms us
+each-means : (mode : Mode) (ms : List RawMessage) → Each (λ (m : RawMessage). Each Utf8 (m .«topic_ids»)) (map renewed ms)
+    → Each (λ (m : RawMessage). length (encodeMessage m) < 2 ^ 64 → IsMessage mode (encodeMessage m) (renewed m)) ms
+each-means mode [] none-left = none-left
+each-means mode (m ∷ ms) (u and us) = (λ l. message-means mode (renewed m) (renewed-same m) l u) and (each-means mode) ms us
 
 -- and with the signature that is asked for it is refused as admission refuses these
 abbrev pub AsAdmission : ℕ → RawMessage → Type 0
@@ -50,14 +52,14 @@ AsAdmission flags m = (word : Bool) → AsAsked (allowsUnsigned flags) (m .signa
     → weighed flags m ≡ ofAdmission (admissionOf flags (encodeMessage m) word)
 
 each-as : (flags : ℕ) (ms : List RawMessage)
-    → Each (λ (m : RawMessage). length (encodeMessage m) < 2 ^ 64 → IsMessage (encodeMessage m) (renewed m)) ms → Each (AsAdmission flags) ms
+    → Each (λ (m : RawMessage). length (encodeMessage m) < 2 ^ 64 → IsMessage (modeOf flags) (encodeMessage m) (renewed m)) ms → Each (AsAdmission flags) ms
 each-as flags [] none-left = none-left
 each-as flags (m ∷ ms) (f and fs) = (λ word s l. as-admission flags m word (f l) s) and each-as flags ms fs
 
 pub spoken-as-admission : (flags : ℕ) (t b : List ℕ) → Words t → listsOf t b ≡ Fine → Each (AsAdmission flags) (messagesIn b (lentRows t))
 unfolding said
 spoken-as-admission flags t b w h =
-    each-as flags (messagesIn b (lentRows t)) (each-means (messagesIn b (lentRows t)) (said-plain t b w (taken-of t b h .texts) .publish))
+    each-as flags (messagesIn b (lentRows t)) (each-means (modeOf flags) (messagesIn b (lentRows t)) (said-plain t b w (taken-of t b h .texts) .publish))
 
 -- of two lendings, message i of which has the same from, data, seqno and topics: what `sign_fields` tells and leaves on the first is what `sign_bytes` tells and
 -- leaves in a dialect on the body that is written from the second under any flags

@@ -8,10 +8,11 @@ use native.Mathlib.Omega.{arith}
 use lib.ListN.{take, drop, take-append-drop}
 use lib.Seq.{sets}
 use lib.Dec.{eqb}
+use Rattle.basis.specs.declared.Mode.{Mode}
 use Rattle.basis.specs.declared.Dialect.{Dialect}
 use Rattle.basis.specs.declared.Edition.{Edition}
 use Rattle.basis.specs.declared.Edition.the-variants.{V12}
-use Rattle.basis.specs.Dialect.{spoken}
+use Rattle.basis.specs.Dialect.{modeOf, spoken}
 use Rattle.basis.specs.Cases.{either, clash, both}
 use Rattle.rows.specs.Ids.{sameBytes, among, distinct}
 use Rattle.rows.specs.IdsLaws.{same-self, same-equal, among-append}
@@ -40,12 +41,12 @@ use Rattle.node.specs.Calls.{replyBytes, replyTo, serveOn, serveAnswer, 
 unfoldable pub serveAnswerWas : Node → List ℕ → List ℕ → Edition → List ℕ → List ℕ → Serve
 serveAnswerWas n ss cs ed body out =
     onLent serve.Faulty (lentOf n ss cs)
-    (serveOn (replyTo (cachedOf (n .cache) cs (wanted body)) out) (acceptOf (spoken ed) body))
+    (serveOn (replyTo (cachedOf (n .cache) cs (wanted (modeOf (n .cache .flags)) body)) out) (acceptOf (spoken (modeOf (n .cache .flags)) ed) body))
 
 unfoldable pub serveLeftWas : Node → List ℕ → List ℕ → Edition → List ℕ → List ℕ → List ℕ
 serveLeftWas n ss cs ed body out =
     whenFine (lentOf n ss cs)
-    (whenTaken (acceptOf (spoken ed) body) (sets out 0 (replyBytes (cachedOf (n .cache) cs (wanted body)) out)) out) out
+    (whenTaken (acceptOf (spoken (modeOf (n .cache .flags)) ed) body) (sets out 0 (replyBytes (cachedOf (n .cache) cs (wanted (modeOf (n .cache .flags)) body)) out)) out) out
 
 -- it is taken, and declines nothing
 pub empty-taken : (d : Dialect) → acceptOf d [] ≡ Fine
@@ -53,25 +54,25 @@ empty-taken d =
     taken-fine d []
     (record {
       records = 0;
-      counts = count-along (kind.Rpc d) [] ∙ ap (countAlong counted (kind.Rpc d) []) (walk-end [] 0 (omega arith));
+      counts = count-along (d .mode) (kind.Rpc (d .edition)) [] ∙ ap (countAlong (counted (d .mode)) (kind.Rpc (d .edition)) []) (walk-end (d .mode) [] 0 (omega arith));
       few = omega arith;
       small = omega arith;
     })
 
-pub empty-declines : unwantedIn [] ≡ []
+pub empty-declines : (mode : Mode) → unwantedIn mode [] ≡ []
 unfolding unwantedIn
-empty-declines =
-    sym (path-all (3 ∷ 5 ∷ 1 ∷ []) [] (omega arith)) ∙ path-done (3 ∷ 5 ∷ 1 ∷ []) [] 0 (omega arith)
+empty-declines mode =
+    sym (path-all mode (3 ∷ 5 ∷ 1 ∷ []) [] (omega arith)) ∙ path-done mode (3 ∷ 5 ∷ 1 ∷ []) [] 0 (omega arith)
 
-pub all-remain : (body : List ℕ) → remaining body [] ≡ wanted body
+pub all-remain : (mode : Mode) (body : List ℕ) → remaining mode body [] ≡ wanted mode body
 unfolding remaining
-all-remain body = rw (empty-declines, without-none (wanted body))
+all-remain mode body = rw (empty-declines mode, without-none (wanted mode body))
 
 pub serve-plain : (n : Node) (ss cs : List ℕ) (ed : Edition) (body out : List ℕ)
     → (serveAnswer n ss cs ed body [] out ≡ serveAnswerWas n ss cs ed body out)
     × (serveLeft n ss cs ed body [] out ≡ serveLeftWas n ss cs ed body out)
 unfolding serveAnswer serveLeft serveAnswerWas serveLeftWas
-serve-plain n ss cs ed body out = rw (empty-taken (spoken V12), all-remain body) (refl, refl)
+serve-plain n ss cs ed body out = rw (empty-taken (spoken (modeOf (n .cache .flags)) V12), all-remain (modeOf (n .cache .flags)) body) (refl, refl)
 
 -- of a gateway
 pub serve-of-plain : (named : List (List ℕ)) (buffer : ℕ) (g : Gateway)

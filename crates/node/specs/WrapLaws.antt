@@ -8,7 +8,7 @@ use native.Mathlib.Omega.{arith}
 use lib.ListN.{length}
 use lib.Dec.{eqb}
 use Rattle.basis.specs.declared.Edition.{Edition}
-use Rattle.basis.specs.Dialect.{spoken}
+use Rattle.basis.specs.Dialect.{modeOf, spoken}
 use Rattle.basis.specs.Cases.{either, clash, both}
 use Rattle.protobuf.specs.declared.Checked.{Checked}
 use Rattle.protobuf.specs.declared.Checked.the-variants as checked
@@ -112,11 +112,11 @@ module _ (k : ℕ) (n : Node) (ss cs : List ℕ) (typed : Typed n) where
 
     body-moved : (r : Checked) → planBody (movedNode k n) at word body i r ≡ planBody n at word body i r
     body-moved (checked.Refused why) = refl
-    body-moved checked.Fine = at-moved (messageAt body i)
+    body-moved checked.Fine = at-moved (messageAt (modeOf (n .cache .flags)) body i)
 
     pub plan-moved : planned (movedNode k n) ss cs ed body i word at ≡ planned n ss cs ed body i word at
     unfolding planned
-    plan-moved = rw (lent-moved, body-moved (acceptOf (spoken ed) body))
+    plan-moved = rw (lent-moved, body-moved (acceptOf (spoken (modeOf (n .cache .flags)) ed) body))
 
     module _ (m id : List ℕ) (t : Takes n ss cs ed body i word at m id) where
       under-moved : planUnder (moved k (n .cache)) m id ≡ putPlanned (moved k (n .cache)) cs ed body i
@@ -139,7 +139,7 @@ module _ (k : ℕ) (n : Node) (ss cs : List ℕ) (typed : Typed n) where
 
       node-moved : admitNode (movedNode k n) ss at (taken m id) ≡ movedNode k (admitNode n ss at (taken m id))
       unfolding heldAt swept laterNode movedNode
-      node-moved = rw kept-moved (either (heldAt n ss at (formOf m id)) (λ u. rw u) (λ u. rw u))
+      node-moved = rw kept-moved (either (heldAt n ss at (formOf (modeOf (n .cache .flags)) m id)) (λ u. rw u) (λ u. rw u))
 
       store-moved : admitCache (movedNode k n) ss cs at (taken m id) ≡ admitCache n ss cs at (taken m id)
       unfolding heldAt swept movedNode
@@ -244,7 +244,7 @@ module _ (k : ℕ) (n : Node) (ss cs : List ℕ) (typed : Typed n) where
       × (serveLeft (movedNode k n) ss cs ed body second out ≡ serveLeft n ss cs ed body second out)
   unfolding serveAnswer serveLeft movedNode
   serve-moved ed body second out =
-      let s = served-moved (remaining body second) in
+      let s = served-moved (remaining (modeOf (n .cache .flags)) body second) in
       (rw (lent-moved, s), rw (lent-moved, s))
 
 -- ---- what a call leaves has the types of a node, so that the same holds for the calls after it
@@ -257,12 +257,12 @@ module _ (n : Node) (ss cs : List ℕ) (typed : Typed n) where
       let t = plan-takes n ss cs ed body i word at m id .0 e in
       let z = swept-sized n ss cs (t .fine) at (typed .ids) in
       let f = swept-fine n ss cs (t .fine) at (typed .ids) in
-      let s = seen-inserted n ss cs (t .fine) at (typed .ids) (formOf m id) (omega (arith, takes-id-small t)) in
-      either (heldAt n ss at (formOf m id))
+      let s = seen-inserted n ss cs (t .fine) at (typed .ids) (formOf (modeOf (n .cache .flags)) m id) (omega (arith, takes-id-small t)) in
+      either (heldAt n ss at (formOf (modeOf (n .cache .flags)) m id))
       (λ u. rw u (record { ids = z; messages = typed .messages }))
       (λ u. rw u
       (record {
-        ids = rw (rw u at s) (insert-sized (swept n at) ss f z (n .«max_seen») at (n .ttl) (formOf m id));
+        ids = rw (rw u at s) (insert-sized (swept n at) ss f z (n .«max_seen») at (n .ttl) (formOf (modeOf (n .cache .flags)) m id));
         messages = under-typed m id (n .cache) (typed .messages);
       }))
 

@@ -31,29 +31,29 @@ unfolding decodeTable
 decided d s t r e = record { answer = e; lent = ap (leaves d s t) e }
 
 module _ (d : Dialect) (s : List ℕ) (words : ℕ) where
-  answered : (c : Tested) → c ≡ bodyRecords d s → onCount (words / 20) (hasControl s) c ≡ decodeAnswer d s words
+  answered : (c : Tested) → c ≡ bodyRecords d s → onCount (words / 20) (hasControl (d .mode) s) c ≡ decodeAnswer d s words
   unfolding decodeAnswer
-  answered c e = ap (onCount (words / 20) (hasControl s)) e
+  answered c e = ap (onCount (words / 20) (hasControl (d .mode) s)) e
 
   module _ (n : ℕ) (e : tested.Records n ≡ bodyRecords d s) where
     short : words / 20 < n → Room n ≡ decodeAnswer d s words
     short r = simp (lt-ltb _ _ r) at (answered (tested.Records n) e)
 
-    fits : (c : Bool) → c ≡ hasControl s → n ≤ words / 20 → Records n c ≡ decodeAnswer d s words
+    fits : (c : Bool) → c ≡ hasControl (d .mode) s → n ≤ words / 20 → Records n c ≡ decodeAnswer d s words
     fits c k r = ap (Records n) k ∙ simp (le-ltb _ _ r) at (answered (tested.Records n) e)
 
 -- a body that is taken is small, and the rows that were counted have room
 of-gate : (d : Dialect) (s t : List ℕ) (n : ℕ) (r : Tested) → Gate d s r → tested.Records n ≡ r → n ≤ length t / 20
-    → (0 + length s ≤ 65536) × ((0 + length (rowsOf (kind.Rpc d) 0 s)) * 20 ≤ length t)
+    → (0 + length s ≤ 65536) × ((0 + length (rowsOf (d .mode) (kind.Rpc (d .edition)) 0 s)) * 20 ≤ length t)
 unfolding ownOf
 of-gate d s t n _ (large h) e l = clash (cc)
 of-gate d s t n _ (bad h why q) e l = clash (cc)
 of-gate d s t n _ (many h m q x) e l = clash (cc)
 of-gate d s t n _ (passes h m q x) e l =
-    let z : n ≡ m = cc in let k = rows-length (kind.Rpc d) 0 s m q in (omega arith, omega arith)
+    let z : n ≡ m = cc in let k = rows-length (d .mode) (kind.Rpc (d .edition)) 0 s m q in (omega arith, omega arith)
 
 room : (d : Dialect) (s t : List ℕ) (n : ℕ) → tested.Records n ≡ bodyRecords d s → n ≤ length t / 20
-    → (0 + length s ≤ 65536) × ((0 + length (rowsOf (kind.Rpc d) 0 s)) * 20 ≤ length t)
+    → (0 + length s ≤ 65536) × ((0 + length (rowsOf (d .mode) (kind.Rpc (d .edition)) 0 s)) * 20 ≤ length t)
 room d s t n e h = of-gate d s t n (bodyRecords d s) (gate d s) e h
 
 body-records-requires : tie.Need-body-records-requires

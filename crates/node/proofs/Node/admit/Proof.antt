@@ -35,13 +35,13 @@ enum-known-m-2 : tie.Need-enum-known-m-2
 enum-known-m-2 c = search needs
 
 sub-admit-part : tie.Need-sub-admit-part
-sub-admit-part c = let a = c .before .before .before .before .before .before .before .before .before .before .before .before .before .before .before .before .before .args in message-inside (now (a .body)) (a .index) _ _ (sym (c .before .before .before .before .before .message-at .ensures) ∙ (c .before .before .before .m2 .given .1)) .0
+sub-admit-part c = let a = c .before .before .before .before .before .before .before .before .before .before .before .before .before .before .before .before .before .args in message-inside (a .mode) (now (a .body)) (a .index) _ _ (sym (c .before .before .before .before .before .message-at .ensures) ∙ (c .before .before .before .m2 .given .1)) .0
 
 part-admit-part-start : tie.Need-part-admit-part-start
-part-admit-part-start c = let a = c .before .before .before .before .before .before .before .before .before .before .before .before .before .before .before .before .before .args in message-inside (now (a .body)) (a .index) _ _ (sym (c .before .before .before .before .before .message-at .ensures) ∙ (c .before .before .before .m2 .given .1)) .0
+part-admit-part-start c = let a = c .before .before .before .before .before .before .before .before .before .before .before .before .before .before .before .before .before .args in message-inside (a .mode) (now (a .body)) (a .index) _ _ (sym (c .before .before .before .before .before .message-at .ensures) ∙ (c .before .before .before .m2 .given .1)) .0
 
 part-admit-part-end : tie.Need-part-admit-part-end
-part-admit-part-end c = let a = c .before .before .before .before .before .before .before .before .before .before .before .before .before .before .before .before .before .args in message-inside (now (a .body)) (a .index) _ _ (sym (c .before .before .before .before .before .message-at .ensures) ∙ (c .before .before .before .m2 .given .1)) .1
+part-admit-part-end c = let a = c .before .before .before .before .before .before .before .before .before .before .before .before .before .before .before .before .before .args in message-inside (a .mode) (now (a .body)) (a .index) _ _ (sym (c .before .before .before .before .before .message-at .ensures) ∙ (c .before .before .before .m2 .given .1)) .1
 
 admit-part-requires : tie.Need-admit-part-requires
 admit-part-requires c κs = let b =

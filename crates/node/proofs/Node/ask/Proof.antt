@@ -43,7 +43,7 @@ request-for-requires c κs = let a = (c .before .before .before .before .before 
     (length-unmapped ℕ (a .self .cache .«topic_start») 256 (g .1 .1 .1 .1 .1 .1 .0 .1 .1 .1 .1 .1 .1 .1 .1 .1 .1 .1 .1 .1 .0 .1 .0 .1))
     (length-unmapped ℕ (a .self .cache .«topic_len») 256 (g .1 .1 .1 .1 .1 .1 .0 .1 .1 .1 .1 .1 .1 .1 .1 .1 .1 .1 .1 .1 .1 .0 .1 .0 .1)) in
     let e = sym (c .before .before .before .accept .ensures) ∙ (c .before .enum-told2 .given .1) in
-    let d = spoken (a .edition) in
+    let d = spoken (a .mode) (a .edition) in
     (r .rows, (accept-small d (a .body .now) e, path-accepted d (a .body .now) e .0))
 
 returns : tie.Need-returns

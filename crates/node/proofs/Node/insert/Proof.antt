@@ -30,12 +30,12 @@ enter-requires : tie.Need-enter-requires
 enter-requires c κs = search needs
 
 sub-keep : tie.Need-sub-keep
-sub-keep c = key-long _ (now
+sub-keep c = key-long (a .mode) _ (now
     (c .before .before .before .before .before .before .before .before .before .before .before .before .before .before .before .before .args .key))
     (c .before .before .before .before .before .before .before .before .before .before .before .before .before .before .before .before .pre .1 .2)
 
 part-keep-start : tie.Need-part-keep-start
-part-keep-start c = key-long _ (now
+part-keep-start c = key-long (a .mode) _ (now
     (c .before .before .before .before .before .before .before .before .before .before .before .before .before .before .before .before .args .key))
     (c .before .before .before .before .before .before .before .before .before .before .before .before .before .before .before .before .pre .1 .2)
 

@@ -22,7 +22,7 @@ slice-aggregate-parts-at-2 c = search needs
 parts-at-requires : tie.Need-parts-at-requires
 parts-at-requires c κs =
     let s = c .before .before .before .before .before .before in
-    ((omega arith, omega arith), (parts-none _ _, named-room (3 ∷ 2 ∷ 1 ∷ []) (s .args .body .now) (s .pre .1 .0)))
+    ((omega arith, omega arith), (parts-none _ _, named-room (a .mode) (3 ∷ 2 ∷ 1 ∷ []) (s .args .body .now) (s .pre .1 .0)))
 
 slice-aggregate-first-mentions : tie.Need-slice-aggregate-first-mentions
 slice-aggregate-first-mentions c = search needs
@@ -95,7 +95,7 @@ returns c =
     let f = first-is (3 ∷ 2 ∷ 1 ∷ []) (a .body .now) (s .pre .1 .0) _ _ _ (d .before .before .before .before .before
     .before .before .before .parts-at .ensures .0) _ _
     (d .before .before .before .before .first-mentions .ensures .0) in
-    let x = rest-is (a .body .now) (a .unwanted .now) _ _ _ _ f (d .not-declined .ensures .0) in
+    let x = rest-is (a .mode) (a .body .now) (a .unwanted .now) _ _ _ _ f (d .not-declined .ensures .0) in
     let q = messages-are (a .self .cache) (a .cache-store .now) (a .body .now) (a .unwanted .now) _ _ _ _ x
     (rw (r .ring .ensures) at (c .before .before .cached .ensures .0)) in
     reply-none _ (a .cache-store .now) _ _ (a .out .now) q (c .if1 .taken)
@@ -157,7 +157,7 @@ returns-2 c =
     let f = first-is (3 ∷ 2 ∷ 1 ∷ []) (a .body .now) (s .pre .1 .0) _ _ _ (d .before .before .before .before .before
     .before .before .before .parts-at .ensures .0) _ _
     (d .before .before .before .before .first-mentions .ensures .0) in
-    let x = rest-is (a .body .now) (a .unwanted .now) _ _ _ _ f (d .not-declined .ensures .0) in
+    let x = rest-is (a .mode) (a .body .now) (a .unwanted .now) _ _ _ _ f (d .not-declined .ensures .0) in
     let q = messages-are (a .self .cache) (a .cache-store .now) (a .body .now) (a .unwanted .now) _ _ _ _ x
     (rw (r .ring .ensures) at (c .before .before .before .before .before .before .before .before .before .before
     .cached .ensures .0)) in
@@ -218,7 +218,7 @@ returns-3 c =
     let f = first-is (3 ∷ 2 ∷ 1 ∷ []) (a .body .now) (s .pre .1 .0) _ _ _ (d .before .before .before .before .before
     .before .before .before .parts-at .ensures .0) _ _
     (d .before .before .before .before .first-mentions .ensures .0) in
-    let x = rest-is (a .body .now) (a .unwanted .now) _ _ _ _ f (d .not-declined .ensures .0) in
+    let x = rest-is (a .mode) (a .body .now) (a .unwanted .now) _ _ _ _ f (d .not-declined .ensures .0) in
     let q = messages-are (a .self .cache) (a .cache-store .now) (a .body .now) (a .unwanted .now) _ _ _ _ x
     (rw (r .ring .ensures) at (c .before .before .before .before .before .before .before .before .before .before
     .before .cached .ensures .0)) in

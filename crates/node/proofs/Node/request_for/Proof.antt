@@ -22,7 +22,7 @@ parts-at-requires c κs = let a = (c .before .before .before .before .before .ar
       (omega arith, omega arith),
       (
         parts-none _ _,
-        named-room (3 ∷ 1 ∷ 2 ∷ []) (a .body .now)
+        named-room (a .mode) (3 ∷ 1 ∷ 2 ∷ []) (a .body .now)
             (few .1),
       ),
     )

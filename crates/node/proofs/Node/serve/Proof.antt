@@ -48,7 +48,7 @@ serve-taken-requires c κs =
     (length-unmapped ℕ (a .self .cache .«topic_len») 256 (g .1 .1 .1 .1 .1 .1 .0 .1 .1 .1 .1 .1 .1 .1 .1 .1 .1 .1 .1 .1
     .1 .0 .1 .0 .1)) in
     let e = sym (c .before .before .before .accept .ensures) ∙ c .before .enum-told2 .given .1 in
-    (r .kept, path-accepted (spoken (a .edition)) (a .body .now) e .1)
+    (r .kept, path-accepted (spoken (a .mode) (a .edition)) (a .body .now) e .1)
 
 returns : tie.Need-returns
 returns c =

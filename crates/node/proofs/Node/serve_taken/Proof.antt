@@ -19,7 +19,7 @@ reply-to-requires : tie.Need-reply-to-requires
 reply-to-requires c κs =
     let s = c .before .before .before .before .before .before .before .before in
     let e = sym (c .before .before .before .accept .ensures) ∙ c .before .enum-told .given .1 in
-    (s .pre .0, (s .pre .1, idontwant-accepted (s .args .unwanted .now) e))
+    (s .pre .0, (s .pre .1, idontwant-accepted (a .mode) (s .args .unwanted .now) e))
 
 returns : tie.Need-returns
 returns c =
