@@ -18,8 +18,8 @@ use Rattle.peer_id.specs.Uvarint.{readUvarint, readFrom, groupOf}
 use Rattle.peer_id.specs.PeerId.{hashOf, fromBytes}
 use Rattle.key.specs.Decode.{typeOf, onTotal, onData, decodeProtobuf}
 use Rattle.utf8.specs.Utf8.{isUtf8, run}
-use Rattle.protobuf.specs.Field.{readTag, readLen, readVarint, skipFixed, skipValue, passed, skipFrom, skipGroup, skipField}
-use Rattle.protobuf.specs.Field.{readValue, readField, walkStep}
+use Rattle.protobuf.specs.Field.{readTag, readLen, readVarint, skipFixed, skipValue, passed, skipFrom, skipGroup}
+use Rattle.protobuf.specs.Field.{skipField, readValue, readField, walkStep}
 use Rattle.protobuf.specs.Walk.{walkFrom, walkAt}
 use Rattle.schema.specs.Schema.{roleOf, rank, ownOf}
 use Rattle.schema.specs.Kinds.{toDepth, overKinds}
@@ -36,8 +36,8 @@ use Rattle.inspect.specs.Made.{writeLine, tosignLine}
 use Rattle.inspect.specs.Records.{bytesText, placeText, countText, flagText, subText, messageText, pruneText}
 use Rattle.inspect.specs.Records.{recordText, recordLine, linesOf, decodedText, decodeLine}
 use Rattle.inspect.specs.Senders.{keyText, peerIdText, keyAnswer, peerAnswer}
-use Rattle.inspect.specs.Answers.{walk, varint, walkAnswer, spokenAnswer, varintAnswer, utf8Answer, answerTo, closed}
-use Rattle.inspect.specs.Answers.{lineOf}
+use Rattle.inspect.specs.Answers.{walk, varint, walkAnswer, spokenAnswer, varintAnswer, utf8Answer, answerTo}
+use Rattle.inspect.specs.Answers.{closed, lineOf}
 
 pub rows :
     (lineOf 1 5 (replicate 8 0 ++ (0x0a ∷ 0x05 ∷ 0x08 ∷ [])) ≡ 49 ∷ 32 ∷ 119 ∷ 97 ∷ 108 ∷ 107 ∷ 32 ∷ 114 ∷ 101 ∷ 102
@@ -104,8 +104,8 @@ unfolding linesOf recordLine recordText pruneText placeText bytesText countText 
     overKinds setPlace withField slotsOf ownRows rowsOf
 editions mode = (refl, refl)
 
--- groups: `1 walk 1 3 1 5` for `0b 10 96 01 0c 1a 00`, and `2 walk refused 5 3 1 at 1` in the first mode; no value and no
--- place behind 14 to 16; a message with its group, whose `from` is not the message's; no line for a dialect of 4
+-- groups: `1 walk 1 3 1 5` for `0b 10 96 01 0c 1a 00`, and `2 walk refused 5 3 1 at 1` in the first mode; no value and
+-- no place behind 14 to 16; a message with its group, whose `from` is not the message's; no line for a dialect of 4
 pub groups : (e : Edition)
     → (lineOf 1 25 (2 ∷ replicate 8 0 ++ (0x0b ∷ 0x10 ∷ 0x96 ∷ 0x01 ∷ 0x0c ∷ 0x1a ∷ 0x00 ∷ [])) ≡ 49 ∷ 32 ∷ 119
     ∷ 97 ∷ 108 ∷ 107 ∷ 32 ∷ 49 ∷ 32 ∷ 51 ∷ 32 ∷ 49 ∷ 32 ∷ 53 ∷ 10 ∷ [])
@@ -129,8 +129,8 @@ pub groups : (e : Edition)
     × (linesOf (spoken Groups e) (0x12 ∷ 0x08 ∷ 0x0a ∷ 0x01 ∷ 0x42 ∷ 0x0b ∷ 0x0a ∷ 0x01 ∷ 0x41 ∷ 0x0c ∷ []) ≡ (32 ∷ 32
     ∷ 109 ∷ 101 ∷ 115 ∷ 115 ∷ 97 ∷ 103 ∷ 101 ∷ 32 ∷ 61 ∷ 48 ∷ 97 ∷ 48 ∷ 49 ∷ 52 ∷ 50 ∷ 48 ∷ 98 ∷ 48 ∷ 97 ∷ 48 ∷ 49 ∷ 52
     ∷ 49 ∷ 48 ∷ 99 ∷ 32 ∷ 61 ∷ 52 ∷ 50 ∷ 32 ∷ 45 ∷ 32 ∷ 45 ∷ 32 ∷ 45 ∷ 32 ∷ 45 ∷ 10 ∷ []) ∷ [])
-unfolding lineOf closed answerTo spokenAnswer walkAnswer walk little editionOf modeOf dialectOf decodeLine decodedText linesOf
-    recordLine recordText messageText placeText bytesText hex fieldsText spotText refusalLine width decimal number
+unfolding lineOf closed answerTo spokenAnswer walkAnswer walk little editionOf modeOf dialectOf decodeLine decodedText
+    linesOf recordLine recordText messageText placeText bytesText hex fieldsText spotText refusalLine width decimal number
     numbers refused readUvarint readFrom groupOf readTag readLen readVarint skipFixed skipValue passed skipFrom
     skipGroup skipField readValue readField walkStep walkFrom walkAt roleOf rank ownOf textCount toDepth overKinds
     counted textSpot spotIn bodyRecords setPlace withField slotsOf hasField ownRows rowsOf hasControl decodeAnswer

@@ -392,12 +392,7 @@ pub extern "C" fn pradulins_decode(
 
 // The top-level field at a place of a body; of the dialect only the mode matters.
 #[no_mangle]
-pub extern "C" fn pradulins_walk(
-    dialect: u32,
-    body: &[u8],
-    at: usize,
-    values: &mut [u64; 8],
-) -> u32
+pub extern "C" fn pradulins_walk(dialect: u32, body: &[u8], at: usize, values: &mut [u64; 8]) -> u32
     ensures { λ r. ⌜ Walks dialect (now (body .entry)) at (now (values .entry)) r (now (values .exit)) ⌝ }
 {
     let spoken = dialect_of(dialect as u64);
