@@ -8,7 +8,7 @@ use native.Mathlib.Omega.{arith}
 use lib.ListN.{length, drop}
 use lib.Seq.{sets}
 use Rattle.basis.specs.declared.Edition.{Edition}
-use Rattle.basis.specs.Dialect.{spoken}
+use Rattle.basis.specs.Dialect.{modeOf, spoken}
 use Rattle.basis.specs.Told.{done}
 use Rattle.rows.specs.declared.Ring.{Ring}
 use Rattle.rows.specs.Rows.{placeOf, without, oneMore}
@@ -58,8 +58,8 @@ oldest-leaves max id m oldest ms h f =
 module _
     (c : MessageCache) (st : List ℕ) (ed : Edition) (body : List ℕ) (i a e x y z w : ℕ)
     (fine : lentOf c st ≡ lent.Fine)
-    (ok : acceptOf (spoken ed) body ≡ checked.Fine)
-    (there : messageAt body i ≡ at.At a e)
+    (ok : acceptOf (spoken (modeOf (c .flags)) ed) body ≡ checked.Fine)
+    (there : messageAt (modeOf (c .flags)) body i ≡ at.At a e)
     (fit : admissionOf (c .flags) (between body a e) true ≡ admission.Fit x y z w)
   where
     -- a put of a held id answers so and changes nothing, also where the message is another one with that id
@@ -95,7 +95,7 @@ pub record Written (c d : MessageCache) (st st2 m : List ℕ) : Type 0 where
   -- and the message is all that is written
   pub stored : st2 ≡ sets st (place * messageSize) m
   -- its topics' places stand beside it, whatever stood there before
-  pub topics : topicsAt (tableOf d) place ≡ topicPlaces m
+  pub topics : topicsAt (tableOf d) place ≡ topicPlaces (modeOf (c .flags)) m
 
 full-place : (ring : Ring) → ring .start ≤ ring .cap → 1 ≤ ring .cap
     → placeOf (without 1 ring) (ring .cap - 1) ≡ placeOf ring 0

@@ -72,8 +72,8 @@ pub record Within (d : Dialect) (s : List ℕ) (x : Rpc) : Type 0 where
   pub small : length s ≤ 65536
   pub few : recordsIn x ≤ 512
 
--- what a body is refused with: 10 above 65,536 bytes, its length; 1 to 7 and 14 to 16, the first in reading order, 1 to 7
--- with its place; 11 above 512 records, their number
+-- what a body is refused with: 10 above 65,536 bytes, its length; 1 to 7 and 14 to 16, the first in reading order, 1 to
+-- 7 with its place; 11 above 512 records, their number
 pub data Refusal (d : Dialect) (s : List ℕ) : Told → Type 0 where
   is-large : 65536 < length s → Refusal d s (told too-large (length s ∷ []))
   is-wrong : {path : List ℕ} {offset : ℕ} {why : WireError} → length s ≤ 65536
@@ -102,8 +102,7 @@ unfolding ownOf
 own-rpc d = refl
 
 pub counted-records : (d : Dialect) (s : List ℕ) (n : ℕ) (x : Rpc)
-    → counted (d .mode) (kind.Rpc (d .edition)) s ≡ count.Records n
-    → IsRpc d s x → n ≡ recordsIn x
+    → counted (d .mode) (kind.Rpc (d .edition)) s ≡ count.Records n → IsRpc d s x → n ≡ recordsIn x
 counted-records d s n x e i =
     let a = rows-length (d .mode) (kind.Rpc (d .edition)) 0 s n e in let b = rpc-records i in omega (arith, own-rpc d)
 
@@ -135,8 +134,8 @@ control-told : {d : Dialect} {s : List ℕ} {x : Rpc} → IsRpc d s x
     → cond (hasControl (d .mode) s) 1 0 ≡ present (x .control)
 unfolding readBack
 control-told {d} {s} {x} i =
-    sym (present-cond (hasControl (d .mode) s) (gather s
-    (rowsOf (d .mode) (kind.Rpc (d .edition)) 0 s) nothing .control))
+    sym (present-cond (hasControl (d .mode) s)
+    (gather s (rowsOf (d .mode) (kind.Rpc (d .edition)) 0 s) nothing .control))
     ∙ ap (λ (y : Rpc). present (y .control)) (read-back i)
 
 -- ---- a body is refused exactly where the scope refuses it
@@ -290,8 +289,7 @@ early-all mode =
     (λ j p q z. ih j q p why z))
 
 pub counted-early : (d : Dialect) (s : List ℕ) (why : WireError)
-    → counted (d .mode) (kind.Rpc (d .edition)) s ≡ count.Refused why
-    → OfBody (d .mode) (refusalNumber why)
+    → counted (d .mode) (kind.Rpc (d .edition)) s ≡ count.Refused why → OfBody (d .mode) (refusalNumber why)
 counted-early d s why h = early-all (d .mode) (kind.Rpc (d .edition)) s why h
 
 -- 10 to 12 are none of them
@@ -311,11 +309,11 @@ refusal-gated (is-wrong {why = why} h i) = early-number (wire-range why .0) (ref
 refusal-gated (has-many h i l) = many-number
 
 -- so 0, 12, 13 and all above 16 are none of them
-pub gated-bound : {mode : Mode} {n : ℕ} → Gated mode n → (0 < n) × (n ≢ 12) × (n ≢ 13) × (n ≤ 16)
-gated-bound large-number = (omega arith, λ e. omega arith, λ e. omega arith, omega arith)
-gated-bound (early-number p (low q)) = (p, λ e. omega arith, λ e. omega arith, omega arith)
-gated-bound (early-number p (of-group l u)) = (p, λ e. omega arith, λ e. omega arith, u)
-gated-bound many-number = (omega arith, λ e. omega arith, λ e. omega arith, omega arith)
+pub gated-bound : {mode : Mode} {n : ℕ} → Gated mode n → (0 < n) × ((n ≢ 12) × (n ≢ 13) × (n ≤ 16))
+gated-bound large-number = (omega arith, (λ e. omega arith, λ e. omega arith, omega arith))
+gated-bound (early-number p (low q)) = (p, (λ e. omega arith, λ e. omega arith, omega arith))
+gated-bound (early-number p (of-group l u)) = (p, (λ e. omega arith, λ e. omega arith, u))
+gated-bound many-number = (omega arith, (λ e. omega arith, λ e. omega arith, omega arith))
 
 -- a body that is within capacity is not refused
 pub refusal-within : {d : Dialect} {s : List ℕ} {a : Told} {x : Rpc} → Refusal d s a → Within d s x → ⊥
@@ -384,14 +382,13 @@ told-records (Records m b) n c e = (
   ap (λ (k : ℕ). Records k b) (ap (λ (t : Told). t .first) e),
   ap (λ (t : Told). t .second) e,
 )
-told-records (Refused r) n c e = let z = wire-range (r .why) .0 in absurd
-    (omega (arith, ap (λ (t : Told). t .number) e))
+told-records (Refused r) n c e = let z = wire-range (r .why) .0 in
+    absurd (omega (arith, ap (λ (t : Told). t .number) e))
 told-records (Room m) n c e = absurd (omega (arith, ap (λ (t : Told). t .number) e))
 
 gate-reads : (d : Dialect) (s : List ℕ) (room : ℕ) (r : Tested) (n : ℕ) (b : Bool) → Gate d s r
     → onCount room (hasControl (d .mode) s) r ≡ Records n b
-    → (counted (d .mode) (kind.Rpc (d .edition)) s ≡ count.Records n) × (n ≤ room)
-    × (b ≡ hasControl (d .mode) s)
+    → (counted (d .mode) (kind.Rpc (d .edition)) s ≡ count.Records n) × (n ≤ room) × (b ≡ hasControl (d .mode) s)
 gate-reads d s room _ n b (large h) e = clash (cc)
 gate-reads d s room _ n b (bad h why q) e = clash (cc)
 gate-reads d s room _ n b (many h m q l) e = clash (cc)
@@ -417,8 +414,8 @@ unfolding decodeTable
 table-means d s t n c x e i =
     let k = told-records (decodeAnswer d s (length t)) n c e in
     let g = answer-reads d s (length t) n (k .0) (k .1) in
-    let l : length (rowsOf (d .mode) (kind.Rpc (d .edition)) 0 s)
-    ≡ n = rows-length (d .mode) (kind.Rpc (d .edition)) 0 s n (g .0) ∙ omega (arith, own-rpc d) in
+    let l : length (rowsOf (d .mode) (kind.Rpc (d .edition)) 0 s) ≡ n =
+    rows-length (d .mode) (kind.Rpc (d .edition)) 0 s n (g .0) ∙ omega (arith, own-rpc d) in
     let room : length (rowsOf (d .mode) (kind.Rpc (d .edition)) 0 s) * 20 ≤ length t = omega (arith, g .1) in
     let rows : rowsIn (leaves d s t (decodeAnswer d s (length t))) 0 n ≡ rowsOf (d .mode) (kind.Rpc (d .edition)) 0 s =
     ap (λ (r : Decoded). rowsIn (leaves d s t r) 0 n) (k .1)
@@ -472,7 +469,8 @@ too-large-exactly d s words n = (
   λ p. told-of (refuses (is-large (p .1))) ∙ ap (λ (k : ℕ). told too-large (k ∷ [])) (sym (p .0)),
 )
 
--- 1 to 7 and, where groups are passed over, 14 to 16 are given exactly to a body of at most 65,536 bytes that means no RPC
+-- 1 to 7 and, where groups are passed over, 14 to 16 are given exactly to a body of at most 65,536 bytes that means no
+-- RPC
 pub record Wrong (d : Dialect) (s : List ℕ) : Type 0 where
   pub small : length s ≤ 65536
   pub meaningless : (x : Rpc) → IsRpc d s x → ⊥

@@ -1,7 +1,8 @@
--- Laws between the editions, in either mode. Where no control of a body has a length-delimited field 5, both editions read
--- it alike, whatever its bytes are: refusals and their places, the number of records, the records, and what `decode`
--- leaves. And what 1.2 takes 1.1 takes, too: there it means the same RPC without IDONTWANTs. A message's own reading is the
--- same in each, since it has no edition to depend on: neither its kind, nor `messageAt`, `idParts` and `signOf`, take one.
+-- Laws between the editions, in either mode. Where no control of a body has a length-delimited field 5, both editions
+-- read it alike, whatever its bytes are: refusals and their places, the number of records, the records, and what
+-- `decode` leaves. And what 1.2 takes 1.1 takes, too: there it means the same RPC without IDONTWANTs. A message's own
+-- reading is the same in each, since it has no edition to depend on: neither its kind, nor `messageAt`, `idParts` and
+-- `signOf`, take one.
 use Prim.Native.Nat.{ℕ, _+_, _/_, _≤_}
 use mathlib.Core.Path.{_≡_, refl, sym, ap, ap₂, subst, _∙_}
 use mathlib.Core.Bool.{Bool, true, false, cond, _&&_, _||_}
@@ -18,7 +19,7 @@ use Rattle.basis.specs.declared.Edition.the-variants.{V11, V12}
 use Rattle.basis.specs.Dialect.{spoken}
 use Rattle.basis.specs.declared.Spot.{Spot}
 use Rattle.basis.specs.Spot.{inside, orElse}
-use Rattle.basis.specs.Cases.{either, clash, both, neither}
+use Rattle.basis.specs.Cases.{either, both, neither}
 use Rattle.protobuf.specs.declared.Field.{Field}
 use Rattle.protobuf.specs.declared.WireError.{WireError}
 use Rattle.protobuf.specs.declared.Checked.the-variants.{Fine}
@@ -252,8 +253,7 @@ older-control : {mode : Mode} {s : List ℕ} {c : ControlMessage} → IsControl 
 older-control (is-control g h1 h2 h3 h4 h5) = is-control g h1 h2 h3 h4 no-pairs
 
 older-controls : {mode : Mode} {ds : List (List ℕ)} {cs : List ControlMessage}
-    → Pairs (IsControl (spoken mode V12)) ds cs
-    → Pairs (IsControl (spoken mode V11)) ds (map olderControl cs)
+    → Pairs (IsControl (spoken mode V12)) ds cs → Pairs (IsControl (spoken mode V11)) ds (map olderControl cs)
 older-controls no-pairs = no-pairs
 older-controls (p paired ps) = older-control p paired older-controls ps
 
@@ -330,8 +330,7 @@ no-more-counted mode j k s h =
     (subst (λ (c : Counted). NoMore c (countAlong (counted mode) k s (fieldsOf mode s))) (sym (count-along mode j s))
     (no-more-along mode j k s h (fieldsOf mode s)))
 
-added-five : (f : Field) → isBytes 5 f ≡ true
-    → roleOf (kind.ControlMessage V11) (f .field) (f .«wire_type») ≡ Skip
+added-five : (f : Field) → isBytes 5 f ≡ true → roleOf (kind.ControlMessage V11) (f .field) (f .«wire_type») ≡ Skip
 unfolding roleOf
 added-five f h =
     let t = both (eqb (f .«wire_type») 2) (eqb (f .field) 5) h in

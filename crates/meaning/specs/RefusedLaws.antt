@@ -1,15 +1,15 @@
 -- A message is refused, by this reason and at this place, exactly where its first refusal in reading order has them; so
--- there is at most one. The place lies within the message, and the path is one of nine, in 1.2 of ten. 14 to 16 carry no
--- place.
+-- there is at most one. The place lies within the message, and the path is one of nine, in 1.2 of ten. 14 to 16 carry
+-- no place.
 use Prim.Native.Nat.{ℕ, _+_, _-_, _*_, _^_, _≤_, _<_}
 use mathlib.Core.Path.{_≡_, refl, sym, ap, ap₂, subst, _∙_}
-use mathlib.Core.Bool.{Bool, true, false, cond}
+use mathlib.Core.Bool.{false, cond}
 use mathlib.Core.List.{List, [], _∷_, _++_, append-assoc}
 use mathlib.Core.Logic.{_↔_}
 use native.Mathlib.Omega.{arith}
-use lib.ListN.{length, take, drop, length-append, length-drop}
+use lib.ListN.{length, drop, length-append, length-drop}
 use lib.Dec.{eqb}
-use borrow.Author.Tests.{eqb-true, eqb-false, eq-eqb, ne-eqb}
+use borrow.Author.Tests.{eqb-true, eq-eqb, ne-eqb}
 use Rattle.basis.specs.declared.Mode.{Mode}
 use Rattle.basis.specs.declared.Mode.the-variants.{Groups}
 use Rattle.basis.specs.declared.Edition.{Edition}
@@ -27,7 +27,6 @@ use Rattle.peer_id.specs.declared.VarintError.{VarintError}
 use Rattle.peer_id.specs.declared.VarintError.the-variants.{BufferTooShort, Overflow, NonCanonical}
 use Rattle.peer_id.specs.Told.{varintTold}
 use Rattle.peer_id.specs.Uvarint.{uvarint}
-use Rattle.peer_id.specs.Laws.{uvarint-some}
 use Rattle.protobuf.specs.declared.Field.{Field}
 use Rattle.protobuf.specs.declared.WireError.{WireError}
 use Rattle.protobuf.specs.declared.WireError.the-variants.{Varint, FieldOverflow, UnsupportedWireType}
@@ -37,14 +36,14 @@ use Rattle.protobuf.specs.declared.Step.the-variants as step
 use Rattle.protobuf.specs.Refusal.{spotOf, placedAs}
 use Rattle.protobuf.specs.Field.{readField}
 use Rattle.protobuf.specs.Laws.{Stands, field-stands}
-use Rattle.protobuf.specs.Grammar.{Payload, number, eight, bytes, group, four, Entry, Value, varint, i64, len-prefix}
-use Rattle.protobuf.specs.Grammar.{i32, Holds, value, grouped, levelsOf}
+use Rattle.protobuf.specs.Grammar.{Payload, bytes, Entry, Value, varint, i64, len-prefix, i32, Holds, value, grouped}
+use Rattle.protobuf.specs.Grammar.{levelsOf}
 use Rattle.protobuf.specs.Encode.{tag, bytesField}
 use Rattle.protobuf.specs.Told.{refusalNumber}
 use Rattle.protobuf.specs.Faults.{FaultIn, bad-tag, bad-number, bad-type, bad-value, bad-length, too-long, too-wide}
 use Rattle.protobuf.specs.Faults.{too-deep, unclosed, crossed, within, Fault, of-field, stray}
 use Rattle.protobuf.specs.FaultLaws.{is-fault, fault-refused}
-use Rattle.protobuf.specs.Walk.{Fields, end, refused, _then_, walkAt, between, payloadOf, entryOf, valueIn}
+use Rattle.protobuf.specs.Walk.{Fields, walkAt, payloadOf, entryOf, valueIn}
 use Rattle.protobuf.specs.WalkLaws.{along, walk-on, between-length}
 use Rattle.protobuf.specs.Exactly.{Stood, field-stood, Found, found}
 use Rattle.schema.specs.declared.Kind.{Kind}
@@ -62,8 +61,8 @@ use Rattle.schema.specs.CountLaws.{count-along}
 use Rattle.schema.specs.Spots.{textSpot, roleSpot, spotAlong, spotIn}
 use Rattle.schema.specs.SpotsLaws.{spot-along, role-clean}
 use Rattle.schema.specs.TextLaws.{IsText, text as is-text, topic as is-topic}
-use Rattle.meaning.specs.Refused.{Meant, FineAs, Fine, RefusedAt, wire, text, inside, later, placeAt, toldAt}
-use Rattle.meaning.specs.Good.{Accepted, GoodRole, counts-good, good-counts, other-counts}
+use Rattle.meaning.specs.Refused.{FineAs, Fine, RefusedAt, wire, text, inside, later, placeAt, toldAt}
+use Rattle.meaning.specs.Good.{GoodRole, counts-good, good-counts, other-counts}
 use Rattle.meaning.specs.Accepted.{meant, meant-accepted}
 
 -- ---- the place, one field out
@@ -260,8 +259,7 @@ plus-refused n (count.Records m) why h = clash (cc)
 plus-refused n (count.Refused w) why h = cc
 
 text-refuses : (mode : Mode) (k : Kind) (s : List ℕ) (at : ℕ) (f : Field) (n m : ℕ) (why : WireError) (r : Role)
-    (x : Spot)
-    → Stood mode s at f → Stands s at f → RoleAt k f ≡ r → IsText r m → f .«wire_type» ≡ 2
+    (x : Spot) → Stood mode s at f → Stands s at f → RoleAt k f ≡ r → IsText r m → f .«wire_type» ≡ 2
     → textCount s f n ≡ count.Refused why → Refuses mode k s at why (orElse (textSpot s f) x)
 unfolding textCount textSpot
 text-refuses mode k s at f n m why r x t st q i w h =
@@ -310,8 +308,8 @@ sub-refuses mode k j form s at f why x t st q w i =
 
 -- a field that is refused
 role-refuses : (mode : Mode) (k : Kind) (s : List ℕ) (at : ℕ) (f : Field) (why : WireError) (r : Role) (x : Spot)
-    → AreBytes s
-    → Stood mode s at f → Stands s at f → RoleAt k f ≡ r → roleCount (counted mode) s f r ≡ count.Refused why
+    → AreBytes s → Stood mode s at f → Stands s at f → RoleAt k f ≡ r
+    → roleCount (counted mode) s f r ≡ count.Refused why
     → ((j : Kind) (d : List ℕ) → rank j < rank k → AreBytes d → counted mode j d ≡ count.Refused why
     → Refuses mode j d 0 why (spotIn mode j d))
     → Refuses mode k s at why (orElse (roleSpot (spotIn mode) s f r) x)
@@ -334,8 +332,7 @@ role-refuses mode k s at f why (Sub j form) x b t st q h ih =
 
 -- a field without refusal, before what is refused
 later-refuses : (mode : Mode) (k : Kind) (s : List ℕ) (at : ℕ) (f : Field) (why : WireError) (m : ℕ) (x : Spot)
-    → AreBytes s
-    → Stood mode s at f → Stands s at f → roleCount (counted mode) s f (RoleAt k f) ≡ count.Records m
+    → AreBytes s → Stood mode s at f → Stands s at f → roleCount (counted mode) s f (RoleAt k f) ≡ count.Records m
     → Refuses mode k s (f .next) why x → Refuses mode k s at why (orElse (roleSpot (spotIn mode) s f (RoleAt k f)) x)
 unfolding tag
 later-refuses mode k s at f why m x b t st h i =
@@ -353,8 +350,7 @@ later-refuses mode k s at f why m x b t st h i =
     }
 
 field-refuses : (mode : Mode) (k : Kind) (s : List ℕ) (at : ℕ) (f : Field) (why : WireError) (c : Counted) → AreBytes s
-    → Stood mode s at f
-    → Stands s at f → roleCount (counted mode) s f (RoleAt k f) ≡ c
+    → Stood mode s at f → Stands s at f → roleCount (counted mode) s f (RoleAt k f) ≡ c
     → andThen c (countAlong (counted mode) k s (walkAt mode s (f .next))) ≡ count.Refused why
     → (countAlong (counted mode) k s (walkAt mode s (f .next)) ≡ count.Refused why
     → Refuses mode k s (f .next) why (spotAlong (spotIn mode) k s (walkAt mode s (f .next))))
@@ -371,16 +367,14 @@ field-refuses mode k s at f why (count.Refused w) b t st q h rest ih =
     (q ∙ ap count.Refused e) ih
 
 wire-refuses : (mode : Mode) (k : Kind) (s : List ℕ) (at : ℕ) (why : WireError) → AreBytes s
-    → step.Refused why ≡ readField mode s at
-    → Refuses mode k s at why (spotOf why)
+    → step.Refused why ≡ readField mode s at → Refuses mode k s at why (spotOf why)
 wire-refuses mode k s at why b e =
     let t = is-fault mode s at why b e in
     record {
       path = [];
       offset = t .place;
       is = wire (t .fault);
-      told = told-own (spotOf why) (spot-at (t .place))
-          (t .spot-at);
+      told = told-own (spotOf why) (spot-at (t .place)) (t .spot-at);
     }
 
 -- a message that is refused has a first refusal
@@ -500,8 +494,7 @@ tells-field mode k s at f path offset why e c p =
 
 -- by a later one
 tells-later : (mode : Mode) (k : Kind) (s : List ℕ) (at : ℕ) (f : Field) (path : List ℕ) (offset : ℕ) (why : WireError)
-    (m : ℕ)
-    → step.At f ≡ readField mode s at → roleCount (counted mode) s f (RoleAt k f) ≡ count.Records m
+    (m : ℕ) → step.At f ≡ readField mode s at → roleCount (counted mode) s f (RoleAt k f) ≡ count.Records m
     → Tells mode k s (f .next) path offset why → Tells mode k s at path offset why
 tells-later mode k s at f path offset why m e c t =
     let w = walk-on mode s at (step.At f) e in

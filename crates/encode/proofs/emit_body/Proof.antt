@@ -5,6 +5,7 @@ use mathlib.Core.List.{List}
 use native.Mathlib.Omega.{arith}
 use lib.ListN.{length}
 use Rattle.basis.specs.declared.Dialect.{Dialect}
+use Rattle.basis.specs.Dialect.{spoken}
 use Rattle.schema.specs.declared.Kind.the-variants as kind
 use Rattle.schema.specs.Schema.{rowOf, heldOf}
 use Rattle.canon.specs.Canon.{inOrder, bodyPart, canonBody}
@@ -16,14 +17,14 @@ use Rattle.encode.proofs.emit_body.Tie as tie
 
 -- the field n of a body
 abbrev top : Dialect → List ℕ → ℕ → List ℕ
-top d s n = bodyPart s n (heldOf (rowOf (kind.Rpc d) n))
+top d s n = bodyPart (d .mode) s n (heldOf (rowOf (kind.Rpc (d .edition)) n))
 
 abbrev Inv-loop : tie.InvT-loop
-Inv-loop dialect body out₀ last n₀ end₀ out n end =
-    (1 ≤ n) × (n ≤ last + 1) × Going out₀ 0 (canonBody dialect body) out end (inOrder (top dialect body) n (last + 1 - n)) × (length out ≡ length out₀)
+Inv-loop body out₀ mode edition last n₀ end₀ out n end =
+    (1 ≤ n) × (n ≤ last + 1) × Going out₀ 0 (canonBody (spoken mode edition) body) out end (inOrder (top (spoken mode edition) body) n (last + 1 - n)) × (length out ≡ length out₀)
 
 abbrev μ-loop : tie.MeasureT-loop
-μ-loop dialect body out₀ last n₀ end₀ out n end = last + 1 - n
+μ-loop body out₀ mode edition last n₀ end₀ out n end = last + 1 - n
 
 rows-requires : tie.Need-rows-requires Inv-loop μ-loop
 rows-requires c κs = search needs
@@ -44,7 +45,7 @@ emit-top-requires : tie.Need-emit-top-requires Inv-loop μ-loop
 emit-top-requires c κs =
     let a = c .before .before .before .before .before .before .before .before .args in
     let l = c .before .before .before .before .loop in
-    (omega (arith, c .before .before .before .before .before .rows .ensures), fits-same _ _ _ (sym (ap (bodyPart (a .body .now) (l .n)) (c .before .held-of .ensures ∙ ap heldOf (c .before .before .row-of .ensures)))) (going-fits _ _ _ _ _ _ (l .inv .2) (top (a .dialect) (a .body .now) (l .n)) _ (order-step (top (a .dialect) (a .body .now)) (l .n) _ (c .before .before .before .loop-test .taken))))
+    (omega (arith, c .before .before .before .before .before .rows .ensures), fits-same _ _ _ (sym (ap (bodyPart (a .dialect .mode) (a .body .now) (l .n)) (c .before .held-of .ensures ∙ ap heldOf (c .before .before .row-of .ensures)))) (going-fits _ _ _ _ _ _ (l .inv .2) (top (a .dialect) (a .body .now) (l .n)) _ (order-step (top (a .dialect) (a .body .now)) (l .n) _ (c .before .before .before .loop-test .taken))))
 
 add-n : tie.Need-add-n Inv-loop μ-loop
 add-n c = omega (arith, c .before .before .before .before .before .before .before .before .rows .ensures)
@@ -61,7 +62,7 @@ loop-again c =
       omega (arith, c .before .before .before .before .before .before .loop-test .taken),
       going-part _ _ _ _ _ _ (l .inv .2) (top (a .dialect) (a .body .now) (l .n)) _
           (order-step (top (a .dialect) (a .body .now)) (l .n) _ (c .before .before .before .before .before .before .loop-test .taken)) _ _
-          (puts-same _ _ _ _ _ _ (ap (bodyPart (a .body .now) (l .n)) (c .before .before .before .before .held-of .ensures
+          (puts-same _ _ _ _ _ _ (ap (bodyPart (a .dialect .mode) (a .body .now) (l .n)) (c .before .before .before .before .held-of .ensures
           ∙ ap heldOf (c .before .before .before .before .before .row-of .ensures))) (c .before .before .emit-top .ensures)),
       omega arith,
     )

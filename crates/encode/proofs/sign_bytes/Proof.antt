@@ -27,13 +27,13 @@ enum-known-m-2 : tie.Need-enum-known-m-2
 enum-known-m-2 c = search needs
 
 sub-sign-part : tie.Need-sub-sign-part
-sub-sign-part c = message-inside (c .before .before .before .before .before .before .before .before .before .args .body .now) (c .before .before .before .before .before .before .before .before .before .args .index) _ _ (sym (c .before .before .before .message-at .ensures) ∙ c .before .m2 .given .1) .0
+sub-sign-part c = message-inside (c .before .before .before .before .before .before .before .before .before .args .dialect .mode) (c .before .before .before .before .before .before .before .before .before .args .body .now) (c .before .before .before .before .before .before .before .before .before .args .index) _ _ (sym (c .before .before .before .message-at .ensures) ∙ c .before .m2 .given .1) .0
 
 part-sign-part-start : tie.Need-part-sign-part-start
-part-sign-part-start c = message-inside (c .before .before .before .before .before .before .before .before .before .args .body .now) (c .before .before .before .before .before .before .before .before .before .args .index) _ _ (sym (c .before .before .before .message-at .ensures) ∙ c .before .m2 .given .1) .0
+part-sign-part-start c = message-inside (c .before .before .before .before .before .before .before .before .before .args .dialect .mode) (c .before .before .before .before .before .before .before .before .before .args .body .now) (c .before .before .before .before .before .before .before .before .before .args .index) _ _ (sym (c .before .before .before .message-at .ensures) ∙ c .before .m2 .given .1) .0
 
 part-sign-part-end : tie.Need-part-sign-part-end
-part-sign-part-end c = message-inside (c .before .before .before .before .before .before .before .before .before .args .body .now) (c .before .before .before .before .before .before .before .before .before .args .index) _ _ (sym (c .before .before .before .message-at .ensures) ∙ c .before .m2 .given .1) .1
+part-sign-part-end c = message-inside (c .before .before .before .before .before .before .before .before .before .args .dialect .mode) (c .before .before .before .before .before .before .before .before .before .args .body .now) (c .before .before .before .before .before .before .before .before .before .args .index) _ _ (sym (c .before .before .before .message-at .ensures) ∙ c .before .m2 .given .1) .1
 
 sign-part-requires : tie.Need-sign-part-requires
 sign-part-requires c κs =
