@@ -1,4 +1,4 @@
--- Where the flags allow no unsigned message, a call brings what it brought before there were flags.
+-- Where the flags allow no unsigned message, a call brings what it brought before there were flags, in their mode.
 use Prim.Native.Nat.{ℕ}
 use mathlib.Core.Path.{_≡_, refl}
 use mathlib.Core.Bool.{Bool, true, false, cond}
