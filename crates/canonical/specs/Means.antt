@@ -173,7 +173,7 @@ value-sized true ds (len-prefix b) h = b and h
 value-sized false ds (len-prefix b) h = h
 value-sized t ds (i32 g) h = h
 
-bytes-sized : {l : ℕ} {s : List ℕ} {es : List Entry} (m : ℕ) → BodyIn l s es → Each Sized (bytesIn m es)
+pub bytes-sized : {l : ℕ} {s : List ℕ} {es : List Entry} (m : ℕ) → BodyIn l s es → Each Sized (bytesIn m es)
 bytes-sized m no-fields = none-left
 bytes-sized m (field {n = n} {es = es} low high w r) = value-sized (eqb n m) (bytesIn m es) w (bytes-sized m r)
 bytes-sized m (a-group low high g r) = bytes-sized m r
@@ -477,7 +477,7 @@ sound-join d b c p q =
     }
 
 -- field m of five groups of fields, each of one number
-found-of : (m : ℕ) (v1 v2 v3 v4 v5 x1 x2 x3 x4 x5 : List (List ℕ)) → bytesIn m (bytesEntries 1 v1) ≡ x1
+pub found-of : (m : ℕ) (v1 v2 v3 v4 v5 x1 x2 x3 x4 x5 : List (List ℕ)) → bytesIn m (bytesEntries 1 v1) ≡ x1
     → bytesIn m (bytesEntries 2 v2) ≡ x2 → bytesIn m (bytesEntries 3 v3) ≡ x3 → bytesIn m (bytesEntries 4 v4) ≡ x4
     → bytesIn m (bytesEntries 5 v5) ≡ x5
     → bytesIn m (bytesEntries 1 v1 ++ (bytesEntries 2 v2 ++ (bytesEntries 3 v3 ++ (bytesEntries 4 v4
