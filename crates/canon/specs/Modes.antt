@@ -76,22 +76,22 @@ sub-accepted k j form m s f x h t q =
 -- ---- what is written of each field m, by g in one mode and by h in the other
 module _ (k : Kind) (s : List ℕ) (m : ℕ) (g h : List ℕ → List ℕ)
     (same : (f : Field) (x : ℕ) → isBytes m f ≡ true → countAt k s f ≡ Records x → g (valueIn s f) ≡ h (valueIn s f))
-    where
-  each-along : (w : Fields) (n : ℕ) → countAlong (counted Plain) k s w ≡ Records n
-      → eachAlong g m s w ≡ eachAlong h m s w
-  each-along end n q = refl
-  each-along (refused why) n q = refl
-  each-along (f then w) n q =
-      let t = then-fits (countAt k s f) (countAlong (counted Plain) k s w) n q in
-      let ih = each-along w (t .1) (t .3) in
-      either (isBytes m f)
-      (λ b. ap₂ (λ (x y : List ℕ). cond (isBytes m f) x [] ++ y) (same f (t .0) b (t .2)) ih)
-      (λ b. simp b ih)
+  where
+    each-along : (w : Fields) (n : ℕ) → countAlong (counted Plain) k s w ≡ Records n
+        → eachAlong g m s w ≡ eachAlong h m s w
+    each-along end n q = refl
+    each-along (refused why) n q = refl
+    each-along (f then w) n q =
+        let t = then-fits (countAt k s f) (countAlong (counted Plain) k s w) n q in
+        let ih = each-along w (t .1) (t .3) in
+        either (isBytes m f)
+        (λ b. ap₂ (λ (x y : List ℕ). cond (isBytes m f) x [] ++ y) (same f (t .0) b (t .2)) ih)
+        (λ b. simp b ih)
 
-  each-same : (n : ℕ) → counted Plain k s ≡ Records n → eachOf Groups g m s ≡ eachOf Plain h m s
-  each-same n q =
-      ap (eachAlong g m s) (same-fields k s n q)
-      ∙ each-along (fieldsOf Plain s) n (sym (count-along Plain k s) ∙ q)
+    each-same : (n : ℕ) → counted Plain k s ≡ Records n → eachOf Groups g m s ≡ eachOf Plain h m s
+    each-same n q =
+        ap (eachAlong g m s) (same-fields k s n q)
+        ∙ each-along (fieldsOf Plain s) n (sym (count-along Plain k s) ∙ q)
 
 -- ---- a message
 abbrev SameBytes : Kind → Type 0
