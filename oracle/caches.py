@@ -42,7 +42,7 @@ SIGNATURE = 64
 MAX_TOPICS = 4
 MAX_TOPIC = 1024
 MAX_MESSAGE = 4096
-MAX_FLAGS = 1
+MAX_FLAGS = 3
 
 # Every refusal that the program can show.
 REFUSALS = {"insert": {33, 40}, "contains": {33}, "cache": {40}, "gossip": {29},
@@ -94,7 +94,7 @@ def unfit(message, flags=0):
         return "refused 23"
     if size["signature"] is None and key is not None:
         return "refused 24"
-    if size["signature"] is None and flags != 1:
+    if size["signature"] is None and flags % 2 != 1:
         return "refused 25"
     if size["signature"] not in (None, SIGNATURE):
         return "refused 26 %d" % size["signature"]
@@ -570,7 +570,7 @@ def flagged_history(r):
     for step in cache_history(r):
         if step[0] == "cache":
             steps.append(("flagged", *step[1:], r.choice((0, 1, 1, 1))))
-            steps += [("flagged", *step[1:], r.choice((2, 3, 256, 257, 65535)))] if r.randrange(4) == 0 else []
+            steps += [("flagged", *step[1:], r.choice((4, 7, 256, 257, 65535)))] if r.randrange(4) == 0 else []
         else:
             steps.append((*step[:2], loosened(r, step[2])) if step[0] == "put" and r.randrange(4) else step)
     return steps
@@ -857,13 +857,13 @@ def placed_named():
 def flag_named():
     """Flags among the settings; messages without a signature; both forms of a message, whose id is seen under two marks and cached once."""
     x, u, look = put_step(X), put_step(U), looks([NAME], [b"t"], 1)
-    for flags in (0, 1, 2, 3, 255, 256, 257, 65535):
+    for flags in (0, 1, 4, 7, 255, 256, 257, 65535):
         yield [("cache", 2, 4, 0), x, ("flagged", 2, 4, 7, flags), u, *look, x, *look]
     for history, most in BAD_SETTINGS[:4] + BAD_SETTINGS[7:9]:
-        yield [("flagged", 2, 4, 0, 1), ("flagged", history, most, 0, 1), ("flagged", history, most, 0, 2), u, *look]
+        yield [("flagged", 2, 4, 0, 1), ("flagged", history, most, 0, 1), ("flagged", history, most, 0, 4), u, *look]
     # Refused settings leave the flags that were there.
-    yield [("flagged", 2, 4, 0, 1), u, ("flagged", 2, 4, 0, 2), ("cache", 0, 4, 0), put_step(without(x_with(seqno=[b"2"]), 5)), *look,
-           ("flagged", 2, 4, 0, 0), ("flagged", 2, 4, 0, 3), u, x, *look, ("flagged", 2, 4, 0, 1), u, ("cache", 2, 4, 0), u, x, *look]
+    yield [("flagged", 2, 4, 0, 1), u, ("flagged", 2, 4, 0, 4), ("cache", 0, 4, 0), put_step(without(x_with(seqno=[b"2"]), 5)), *look,
+           ("flagged", 2, 4, 0, 0), ("flagged", 2, 4, 0, 7), u, x, *look, ("flagged", 2, 4, 0, 1), u, ("cache", 2, 4, 0), u, x, *look]
     for flags in (0, 1):
         yield [("flagged", 2, 4, 0, flags)] + [step for change, *_ in peers.SHORT_UNSIGNED_ROWS for step in (put_step(x_with(**change)), ("gossip", 1, b"t"))]
         yield [("flagged", 2, 64, 0, flags)] + [put_step(x_with(from_=[who], signature=[])) for who in SENDERS + HASHES + KEYLESS + NO_PEERS] \

@@ -11,11 +11,11 @@ histories of caches.py and some random ones; they show every call and every refu
 Both have rows about the place of a refusal at their end; after them `caches` has
 unsigned messages, with the flags that allow them and without, and `inspect` has public
 keys and peer ids (keys.py), and lists to write from (lists.py): the rows of the scope,
-some of the fixed ones and random ones. Last come bodies in both editions, by the kinds
-that have a dialect, and puts in both. The answers in stdout are the Rust's,
+some of the fixed ones and random ones. Then come bodies in both editions, by the kinds
+that have a dialect, and puts in both; last bodies with groups, in both modes. The answers in stdout are the Rust's,
 from the oracle, never the program's; the limits that the Rust does not have are the
-scope's own, the places are those of places.py, and what is said in 1.2 is editions.py's. Each run ends with a length that
-is too long, its kind cut off.
+scope's own, the places are those of places.py, what is said in 1.2 is editions.py's, and the lines about groups are written by hand (group_rows.py).
+Each run ends with a length that is too long, its kind cut off.
 """
 
 import os
@@ -24,6 +24,7 @@ import random
 import bodies
 import caches
 import editions
+import group_rows
 import keys
 import lists
 import wire
@@ -231,8 +232,11 @@ def make_inspect(oracle):
     answers = oracle.batch(commands)
     of_lists = list(chosen_lists(random.Random(LISTS_SEED)))
     of_editions = list(edition_cases(random.Random(EDITIONS_SEED)))
-    save("inspect", [wire.record(case) for case in cases] + [lists.record(case) for case in of_lists] + [wire.record(*case) for case in of_editions],
-         ["\n".join(lines(*one)) for one in zip(cases, commands, answers)] + list_lines(oracle, of_lists) + edition_lines(oracle, of_editions))
+    of_groups = list(group_rows.inspected())
+    save("inspect", [wire.record(case) for case in cases] + [lists.record(case) for case in of_lists] + [wire.record(*case) for case in of_editions]
+         + [wire.record(case, dialect) for case, dialect, _ in of_groups],
+         ["\n".join(lines(*one)) for one in zip(cases, commands, answers)] + list_lines(oracle, of_lists) + edition_lines(oracle, of_editions)
+         + [told for *_, told in of_groups])
 
 
 def make_caches(oracle):
@@ -247,6 +251,9 @@ def make_caches(oracle):
     assert len(told) == len(steps) and {step[0] for step in steps} == set(caches.FORM)
     refused = {tuple(line.split(" ")[0:3:2]) for line in told if line.split(" ")[1] == "refused"}
     assert refused == {(call, str(number)) for call, numbers in caches.REFUSALS.items() for number in numbers}
+    for step, answer in group_rows.cache_rows():
+        steps.append(step)
+        told.append("%s %s" % (caches.CALLED.get(step[0], step[0]), answer))
     save("caches", [caches.record(step) for step in steps], told)
 
 

@@ -15,6 +15,7 @@ import nodes
 import programs
 from caches import NAME, U, X, plain, x_with
 from compare_states import printed_by
+from group_rows import BEFORE, BEHIND, NAMES, of, reply
 from oracle import HERE
 from peers import ID
 from records import Records
@@ -130,8 +131,8 @@ SAVED_BEFORE = [
 TOLD = "1a2b12290a27%s01" % ID.hex()
 UNSIGNED = [
     (("gateway", holding(2, plain(U), mark=b"\x00")), "refused 42"),
-    (("gateway", holding(2, plain(U), mark=b"\x00", flags=2)), "refused 42"),
-    (("gateway", holding(2, plain(X), flags=2)), "refused 42"),
+    (("gateway", holding(2, plain(U), mark=b"\x00", flags=4)), "refused 42"),
+    (("gateway", holding(2, plain(X), flags=4)), "refused 42"),
     (("gateway", holding(2, plain(U), mark=b"\x00", flags=1)), "ok"),
     (why(3), "listed"),
     (ask(NAME), "0"),
@@ -147,12 +148,29 @@ UNSIGNED = [
     (admit(100, body_of(U)), "refused 25"),
 ]
 
+# A gateway that passes over groups, and holds a message with one: in the first mode it is none.
+GROUPS = [
+    (("gateway", holding(2, BEHIND)), "refused 42"),
+    (("gateway", holding(2, BEHIND, flags=2)), "ok"),
+    (why(3), "listed"),
+    (serve(NAME), reply(BEHIND)),
+    (admit(501, of(BEFORE)), "new"),
+    (why(1, NAMES[2]), "listed"),
+    (why(1, NAMES[2], b"u"), "topic"),
+    (admit(501, b"\x0b"), "refused 16"),
+    (admit(501, b"\x0c"), "refused 14"),
+    (("gateway", holding(2, BEFORE, NAMES[2], flags=3)), "ok"),
+    (why(3, NAMES[2]), "listed"),
+    (("set", 1000, 4, 2, 4), "ok"),
+    (admit(100, of(BEHIND)), "refused 5"),
+]
+
 # The id is longer than what follows.
 CUT = ("why", 1, 3, NAME[-2:])
 
 
 def main():
-    rows = STARTED + GIVEN + SAVED_BEFORE + UNSIGNED
+    rows = STARTED + GIVEN + SAVED_BEFORE + UNSIGNED + GROUPS
     data = RECORDS.records([step for step, _ in rows] + [CUT])
     lines = ["%d %s %s" % (n, step[0], answer) for n, (step, answer) in enumerate(rows, 1)] + ["bad"]
     if len(sys.argv) > 1:

@@ -31,7 +31,8 @@ MAX_TOPICS = 4
 MAX_TOPIC = 1024
 MAX_MESSAGE = 4096
 ALLOW_UNSIGNED = 1  # a flag: messages with neither signature nor key may be taken
-MAX_FLAGS = 1
+SKIP_GROUPS = 2  # a flag: groups are passed over, which this model does not
+MAX_FLAGS = 3
 ROOM = 65536
 
 # Of each call: its kind, how many bytes its numbers have, and whether bytes follow them.

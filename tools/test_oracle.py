@@ -449,12 +449,12 @@ class Senders(unittest.TestCase):
             self.assertFalse(nodes.is_signed(message))
             self.assertEqual(nodes.admission(message, False, 1), (caches.NAME, [b"t"]))
         # A setting is legal up to the known flags.
-        for flags in range(5):
+        for flags in range(7):
             try:
                 nodes.Node(0, 0, 1, 0, flags)
-                self.assertLess(flags, 2)
+                self.assertLess(flags, 4)
             except nodes.Refused as why:
-                self.assertEqual((why.args, flags > 1), ((40,), True))
+                self.assertEqual((why.args, flags > 3), ((40,), True))
 
     def test_random_histories_with_flags(self):
         """Under flags, too, most calls are answered, and both forms are met."""

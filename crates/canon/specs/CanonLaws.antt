@@ -39,7 +39,8 @@ same-held : (mode : Mode) (f g : Kind → List ℕ → List ℕ) (n : ℕ) (s : 
 unfolding heldPart
 same-held mode f g n s held.Nothing e = refl
 same-held mode f g n s held.Whole e = refl
-same-held mode f g n s (held.Anew j) e = same-each (λ p. bytesField n (f j p)) (λ p. bytesField n (g j p)) n s (fieldsOf mode s)
+same-held mode f g n s (held.Anew j) e =
+    same-each (λ p. bytesField n (f j p)) (λ p. bytesField n (g j p)) n s (fieldsOf mode s)
     (λ p. ap (bytesField n) (e j p refl))
 same-held mode f g n s (held.Merged j) e = refl
 
@@ -48,7 +49,8 @@ unfolding canon
 canon-fields mode k s =
     unfolds (canonStep mode) []
     (λ f g j p h. same-order (partWith mode f j p) (partWith mode g j p)
-    (λ n. ap (λ (x : List ℕ). ownPart (slotsOf mode j p) n p (rowOf j n) ++ x) (same-held mode f g n p (heldOf (rowOf j n))
+    (λ n. ap (λ (x : List ℕ). ownPart (slotsOf mode j p) n p (rowOf j n) ++ x)
+    (same-held mode f g n p (heldOf (rowOf j n))
     (λ i q e. h i q (held-rank j i n e)))) 1 (length (table j)))
     k s
 

@@ -1,5 +1,5 @@
--- Where no control of a body has a length-delimited field 5, its canonical bytes are the same in both editions, in either
--- mode, whatever its bytes are.
+-- Where no control of a body has a length-delimited field 5, its canonical bytes are the same in both editions, in
+-- either mode, whatever its bytes are.
 use Prim.Native.Nat.{ℕ}
 use mathlib.Core.Path.{_≡_, refl, sym, ap, ap₂, _∙_}
 use mathlib.Core.Bool.{Bool, false, cond, _&&_}

@@ -84,12 +84,14 @@ list-count s (f ∷ fs) i n m l h =
     lt-of n i l z = omega arith
 
 -- ---- in the RPC
-pairs-nth : (mode : Mode) {ds : List (List ℕ)} {ms : List RawMessage} {i : ℕ} {d : List ℕ} → Pairs (IsMessage mode) ds ms → Nth i ds d
+pairs-nth : (mode : Mode) {ds : List (List ℕ)} {ms : List RawMessage} {i : ℕ} {d : List ℕ}
+    → Pairs (IsMessage mode) ds ms → Nth i ds d
     → (m : RawMessage) × (Nth i ms m) × (IsMessage mode d m)
 pairs-nth mode (_paired_ {y = m} p ps) here = (m, here, p)
 pairs-nth mode (p paired ps) (there n) = let r = pairs-nth mode ps n in (r .0, there (r .1), r .2)
 
-pairs-length : (mode : Mode) {ds : List (List ℕ)} {ms : List RawMessage} → Pairs (IsMessage mode) ds ms → length ds ≡ length ms
+pairs-length : (mode : Mode) {ds : List (List ℕ)} {ms : List RawMessage} → Pairs (IsMessage mode) ds ms
+    → length ds ≡ length ms
 pairs-length mode no-pairs = refl
 pairs-length mode (p paired ps) = ap suc (pairs-length mode ps)
 

@@ -34,8 +34,8 @@ use Rattle.meaning.specs.Modes.{same-fields, same-slots, same-has}
 use Rattle.ids.specs.declared.MessageAt.the-variants.{At}
 use Rattle.ids.specs.Ids.{messageAlong, messageAt}
 use Rattle.rpc.specs.Encode.{signPrefix}
-use Rattle.canon.specs.Canon.{ownPart, eachAlong, eachOf, heldPart, partWith, canon, entriesOf, mergedOf, bodyPart}
-use Rattle.canon.specs.Canon.{canonBody, signOf}
+use Rattle.canon.specs.Canon.{ownPart, eachAlong, eachOf, heldPart, partWith, canon, entriesOf, mergedOf}
+use Rattle.canon.specs.Canon.{bodyPart, canonBody, signOf}
 use Rattle.canon.specs.CanonLaws.{same-order, canon-fields}
 
 -- how the first mode counts a field of a message
@@ -170,4 +170,5 @@ placed-along e s (f then w) i k a z n h q =
 pub message-accepted : (e : Edition) (s : List ℕ) (n i a z : ℕ) → counted Plain (kind.Rpc e) s ≡ Records n
     → messageAt Plain s i ≡ At a z → (y : ℕ) × (counted Plain kind.RawMessage (between s a z) ≡ Records y)
 unfolding messageAt
-message-accepted e s n i a z q h = placed-along e s (fieldsOf Plain s) i 0 a z n h (sym (count-along Plain (kind.Rpc e) s) ∙ q)
+message-accepted e s n i a z q h =
+    placed-along e s (fieldsOf Plain s) i 0 a z n h (sym (count-along Plain (kind.Rpc e) s) ∙ q)

@@ -40,7 +40,8 @@ flag-nonzero : (o : Option ℕ) → optional (λ b. varintField 1 (flag b)) (non
 flag-nonzero none = refl
 flag-nonzero (some v) = refl
 
-pub sub-opts-shorter : (mode : Mode) (s : List ℕ) (x : SubOpts) → IsSubOpts mode s x → length (encodeSubOpts x) ≤ length s
+pub sub-opts-shorter : (mode : Mode) (s : List ℕ) (x : SubOpts) → IsSubOpts mode s x
+    → length (encodeSubOpts x) ≤ length s
 unfolding encodeSubOpts
 sub-opts-shorter mode _ _ (is-sub-opts {s = s} {es = es} g u) =
     let a = fields-fit 2 g in
@@ -67,10 +68,12 @@ iwant-shorter mode _ _ (is-iwant {s = s} {es = es} g) = let a = fields-fit 1 g i
 
 pub graft-shorter : (mode : Mode) (s : List ℕ) (x : ControlGraft) → IsGraft mode s x → length (encodeGraft x) ≤ length s
 unfolding encodeGraft
-graft-shorter mode _ _ (is-graft {s = s} {es = es} g u) = let a = fields-fit 1 g in let b = last-bytes 1 (bytesIn 1 es) in
+graft-shorter mode _ _ (is-graft {s = s} {es = es} g u) =
+    let a = fields-fit 1 g in let b = last-bytes 1 (bytesIn 1 es) in
     omega arith
 
-pub peer-info-shorter : (mode : Mode) (s : List ℕ) (x : PeerInfo) → IsPeerInfo mode s x → length (encodePeerInfo x) ≤ length s
+pub peer-info-shorter : (mode : Mode) (s : List ℕ) (x : PeerInfo) → IsPeerInfo mode s x
+    → length (encodePeerInfo x) ≤ length s
 unfolding encodePeerInfo
 peer-info-shorter mode _ _ (is-peer-info {s = s} {es = es} g) =
     let a = fields-fit 2 g in
@@ -93,14 +96,16 @@ prune-shorter mode _ _ (is-prune {s = s} {es = es} {ps = ps} g u h) =
     let l = length-append r n in
     omega arith
 
-pub idontwant-shorter : (mode : Mode) (s : List ℕ) (x : ControlIDontWant) → IsIDontWant mode s x → length (encodeIDontWant x) ≤ length s
+pub idontwant-shorter : (mode : Mode) (s : List ℕ) (x : ControlIDontWant) → IsIDontWant mode s x
+    → length (encodeIDontWant x) ≤ length s
 unfolding encodeIDontWant
 idontwant-shorter mode _ _ (is-idontwant {s = s} {es = es} g) =
     let a = fields-fit 1 g in let c = all-bytes 1 (bytesIn 1 es) in
     omega arith
 
 -- the entries that an edition adds
-added-shorter : (mode : Mode) {ds : List ControlIDontWant} (e : Edition) (es : List Entry) → Pairs (IsIDontWant mode) (idontwantsIn e es) ds
+added-shorter : (mode : Mode) {ds : List ControlIDontWant} (e : Edition) (es : List Entry)
+    → Pairs (IsIDontWant mode) (idontwantsIn e es) ds
     → length (repeated (λ d. bytesField 5 (encodeIDontWant d)) ds) ≤ bytesLength 5 (bytesIn 5 es)
 added-shorter mode V11 es no-pairs = omega arith
 added-shorter mode V12 es h = all-subs 5 encodeIDontWant (idontwant-shorter mode) h

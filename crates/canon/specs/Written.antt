@@ -94,18 +94,19 @@ each-pairs g f same (_paired_ {x = d} {y = x} p ps) =
     ap₂ (λ (y z : List ℕ). y ++ z) (same d x p) (each-pairs g f same ps)
 
 -- those of the field n, whose canonical bytes are their encodings
-module _ (mode : Mode) {X : Type 0} {R : List ℕ → X → Type 0} (j : Kind) (enc : X → List ℕ) (same : (d : List ℕ) (x : X) → R d x
-    → canon mode j d ≡ enc x) where
+module _ (mode : Mode) {X : Type 0} {R : List ℕ → X → Type 0} (j : Kind) (enc : X → List ℕ)
+    (same : (d : List ℕ) (x : X) → R d x → canon mode j d ≡ enc x) where
   subs-written : (n : ℕ) (s : List ℕ) (es : List Entry) (xs : List X) → Body mode s es → Pairs R (bytesIn n es) xs
       → heldPart mode (canon mode) n s (held.Anew j) ≡ repeated (λ x. bytesField n (enc x)) xs
   unfolding heldPart
   subs-written n s es xs g h =
       each-body mode (λ p. bytesField n (canon mode j p)) n s es g
-      ∙ each-pairs (λ p. bytesField n (canon mode j p)) (λ x. bytesField n (enc x)) (λ d x r. ap (bytesField n) (same d x r))
-      h
+      ∙ each-pairs (λ p. bytesField n (canon mode j p)) (λ x. bytesField n (enc x))
+      (λ d x r. ap (bytesField n) (same d x r)) h
 
 -- a slot, and the number
-slot-part : (mode : Mode) (n : ℕ) (s : List ℕ) (k : Kind) (g : Slots → Place) (m : ℕ) (es : List Entry) → Body mode s es → Feeds k g m
+slot-part : (mode : Mode) (n : ℕ) (s : List ℕ) (k : Kind) (g : Slots → Place) (m : ℕ) (es : List Entry)
+    → Body mode s es → Feeds k g m
     → bytesAt s 0 (g noSlots) ≡ none → placed n s (g (slotsOf mode k s)) ≡ optional (bytesField n) (last (bytesIn m es))
 slot-part mode n s k g m es h feed z =
     let w = body-walks mode s es h in
@@ -113,8 +114,10 @@ slot-part mode n s k g m es h feed z =
     ∙ ap (optional (bytesField n)) (slot-value mode s 0 s k g m (w .fields) es (whole-part s) feed (w .walked)
     (w .entries) z)
 
-number-part : (mode : Mode) (figure : Figure) (n : ℕ) (s : List ℕ) (k : Kind) (m : ℕ) (es : List Entry) → Body mode s es → FeedsNumber k m
-    → numbered figure n (slotsOf mode k s .number) ≡ optional (λ v. varintField n (figured figure v)) (last (numbersIn m es))
+number-part : (mode : Mode) (figure : Figure) (n : ℕ) (s : List ℕ) (k : Kind) (m : ℕ) (es : List Entry)
+    → Body mode s es → FeedsNumber k m
+    → numbered figure n (slotsOf mode k s .number)
+    ≡ optional (λ v. varintField n (figured figure v)) (last (numbersIn m es))
 number-part mode figure n s k m es h feed =
     let w = body-walks mode s es h in
     numbered-at figure n (slotsOf mode k s .number)
@@ -127,40 +130,46 @@ flag-value : (o : Option ℕ) → optional (λ v. varintField 1 (figured Flag v)
 flag-value none = refl
 flag-value (some v) = either (eqb v 0) (λ t. simp t) (λ t. simp t)
 
-canon-sub-opts : (mode : Mode) (s : List ℕ) (x : SubOpts) → IsSubOpts mode s x → canon mode kind.SubOpts s ≡ encodeSubOpts x
+canon-sub-opts : (mode : Mode) (s : List ℕ) (x : SubOpts) → IsSubOpts mode s x
+    → canon mode kind.SubOpts s ≡ encodeSubOpts x
 unfolding ownPart heldPart slotIn encodeSubOpts
 canon-sub-opts mode _ _ (is-sub-opts {s = s} {es = es} g u) =
     let a = number-part mode Flag 1 s kind.SubOpts 1 es g sub-opts-subscribe ∙ flag-value (last (numbersIn 1 es)) in
     let b = slot-part mode 2 s kind.SubOpts (λ t. t .first) 2 es g sub-opts-topic refl in
     canon-fields mode kind.SubOpts s ∙ simp (append-nil, a, b)
 
-canon-graft : (mode : Mode) (s : List ℕ) (x : ControlGraft) → IsGraft mode s x → canon mode kind.ControlGraft s ≡ encodeGraft x
+canon-graft : (mode : Mode) (s : List ℕ) (x : ControlGraft) → IsGraft mode s x
+    → canon mode kind.ControlGraft s ≡ encodeGraft x
 unfolding ownPart heldPart slotIn encodeGraft
 canon-graft mode _ _ (is-graft {s = s} {es = es} g u) =
     let a = slot-part mode 1 s kind.ControlGraft (λ t. t .first) 1 es g graft-topic refl in
     canon-fields mode kind.ControlGraft s ∙ simp (append-nil, a)
 
-canon-peer-info : (mode : Mode) (s : List ℕ) (x : PeerInfo) → IsPeerInfo mode s x → canon mode kind.PeerInfo s ≡ encodePeerInfo x
+canon-peer-info : (mode : Mode) (s : List ℕ) (x : PeerInfo) → IsPeerInfo mode s x
+    → canon mode kind.PeerInfo s ≡ encodePeerInfo x
 unfolding ownPart heldPart slotIn encodePeerInfo
 canon-peer-info mode _ _ (is-peer-info {s = s} {es = es} g) =
     let a = slot-part mode 1 s kind.PeerInfo (λ t. t .first) 1 es g peer-id refl in
     let b = slot-part mode 2 s kind.PeerInfo (λ t. t .second) 2 es g peer-record refl in
     canon-fields mode kind.PeerInfo s ∙ simp (append-nil, a, b)
 
-canon-ihave : (mode : Mode) (s : List ℕ) (x : ControlIHave) → IsIHave mode s x → canon mode kind.ControlIHave s ≡ encodeIHave x
+canon-ihave : (mode : Mode) (s : List ℕ) (x : ControlIHave) → IsIHave mode s x
+    → canon mode kind.ControlIHave s ≡ encodeIHave x
 unfolding ownPart heldPart slotIn encodeIHave
 canon-ihave mode _ _ (is-ihave {s = s} {es = es} g u) =
     let a = slot-part mode 1 s kind.ControlIHave (λ t. t .first) 1 es g ihave-topic refl in
     let b = each-body mode (bytesField 2) 2 s es g in
     canon-fields mode kind.ControlIHave s ∙ simp (append-nil, a, b)
 
-canon-iwant : (mode : Mode) (s : List ℕ) (x : ControlIWant) → IsIWant mode s x → canon mode kind.ControlIWant s ≡ encodeIWant x
+canon-iwant : (mode : Mode) (s : List ℕ) (x : ControlIWant) → IsIWant mode s x
+    → canon mode kind.ControlIWant s ≡ encodeIWant x
 unfolding ownPart heldPart slotIn encodeIWant
 canon-iwant mode _ _ (is-iwant {s = s} {es = es} g) =
     let a = each-body mode (bytesField 1) 1 s es g in
     canon-fields mode kind.ControlIWant s ∙ simp (append-nil, a)
 
-canon-prune : (mode : Mode) (s : List ℕ) (x : ControlPrune) → IsPrune mode s x → canon mode kind.ControlPrune s ≡ encodePrune x
+canon-prune : (mode : Mode) (s : List ℕ) (x : ControlPrune) → IsPrune mode s x
+    → canon mode kind.ControlPrune s ≡ encodePrune x
 unfolding ownPart heldPart slotIn encodePrune
 canon-prune mode _ _ (is-prune {s = s} {es = es} {ps = ps} g u h) =
     let a = slot-part mode 1 s kind.ControlPrune (λ t. t .first) 1 es g prune-topic refl in
@@ -186,7 +195,8 @@ added-of : (mode : Mode) (e : Edition) (s : List ℕ) (es : List Entry) (ds : Li
     → addedPart mode e s ≡ repeated (λ d. bytesField 5 (encodeIDontWant d)) ds
 unfolding addedPart
 added-of mode V11 s es _ g no-pairs = refl
-added-of mode V12 s es ds g h = subs-written mode kind.ControlIDontWant encodeIDontWant (canon-idontwant mode) 5 s es ds g h
+added-of mode V12 s es ds g h =
+    subs-written mode kind.ControlIDontWant encodeIDontWant (canon-idontwant mode) 5 s es ds g h
 
 -- the entries n of a control that are of a kind
 abbrev partOf : Mode → ℕ → Kind → List ℕ → List ℕ
@@ -237,7 +247,8 @@ added-order mode V11 s part h = sym (each-none 3 s (fieldsOf mode s))
 added-order mode V12 s part h = append-nil (part 5) ∙ h
 
 merged : (d : Dialect) (s : List ℕ) (es : List Entry) (cs : List ControlMessage) → Body (d .mode) s es
-    → Pairs (IsControl d) (bytesIn 3 es) cs → mergedOf (d .mode) (kind.ControlMessage (d .edition)) 3 s ≡ encodeControl (flat cs)
+    → Pairs (IsControl d) (bytesIn 3 es) cs
+    → mergedOf (d .mode) (kind.ControlMessage (d .edition)) 3 s ≡ encodeControl (flat cs)
 unfolding mergedOf entriesOf encodeControl
 merged d s es cs g h =
     let e1 = each-body (d .mode) (partOf (d .mode) 1 kind.ControlIHave) 3 s es g
@@ -276,13 +287,15 @@ pub canon-written : {d : Dialect} {s : List ℕ} {x : Rpc} → IsRpc d s x → c
 unfolding canonBody bodyPart heldPart encodeRpc
 canon-written {d} (is-rpc {s = s} {es = es} {ss = ss} {ms = ms} {cs = cs} g h1 h2 h3) =
     let a = subs-written (d .mode) kind.SubOpts encodeSubOpts (canon-sub-opts (d .mode)) 1 s es ss g h1 in
-    let b = each-body (d .mode) (bytesField 2) 2 s es g ∙ each-pairs (bytesField 2) (λ m. bytesField 2 (m .raw)) (raw-of (d .mode)) h2 in
+    let b = each-body (d .mode) (bytesField 2) 2 s es g
+    ∙ each-pairs (bytesField 2) (λ m. bytesField 2 (m .raw)) (raw-of (d .mode)) h2 in
     let c = ap₂ (λ (t : Bool) (x : List ℕ). cond t (bytesField 3 x) []) (rpc-control d s es cs g h3)
     (merged d s es cs g h3) ∙ control-written cs in
     ap₂ _++_ a (ap₂ _++_ b (append-nil _ ∙ c))
 
 -- ---- the bytes that are signed
-pub canon-message : (mode : Mode) (s : List ℕ) (es : List Entry) → Body mode s es → canon mode kind.RawMessage s ≡ signedFields es
+pub canon-message : (mode : Mode) (s : List ℕ) (es : List Entry) → Body mode s es
+    → canon mode kind.RawMessage s ≡ signedFields es
 unfolding ownPart heldPart slotIn
 canon-message mode s es g =
     let a = slot-part mode 1 s kind.RawMessage (λ t. t .first) 1 es g message-from refl in
@@ -297,6 +310,7 @@ unfolding signOf signBytes
 sign-written mode (is-message {s = s} {es = es} g u) = ap (λ (x : List ℕ). signPrefix ++ x) (canon-message mode s es g)
 
 -- and they are at most 14 more than the message
-pub message-shorter : (mode : Mode) {s : List ℕ} {m : RawMessage} → IsMessage mode s m → length (canon mode kind.RawMessage s) ≤ length s
+pub message-shorter : (mode : Mode) {s : List ℕ} {m : RawMessage} → IsMessage mode s m
+    → length (canon mode kind.RawMessage s) ≤ length s
 message-shorter mode (is-message {s = s} {es = es} g u) =
     subst (λ (x : List ℕ). length x ≤ length s) (sym (canon-message mode s es g)) (signed-shorter g)

@@ -1,8 +1,8 @@
 -- What the calls that write tell and leave, by the scope's numbers and the values beside them, said of the RPC that the
--- body means and of nothing else, one exact theorem for each call. A body is refused by 10, 1 to 7, 14 to 16 or 11 and
--- nothing is changed, or it means an RPC within capacity. Then `encode` writes that RPC, `sign_bytes` what is signed of its
--- message i, `message_id` and `seen_message_id` that message's id; 20 where there is no message i; 12 where there is no
--- room.
+-- body means and of nothing else, one exact theorem for each call. A body is refused by 10, by 1 to 7, by 14 to 16
+-- where groups are passed over, or by 11, and nothing is changed; or it means an RPC within capacity. Then `encode`
+-- writes that RPC, `sign_bytes` what is signed of its message i, `message_id` and `seen_message_id` that message's id;
+-- 20 where there is no message i; 12 where there is no room.
 use Prim.Native.Nat.{ℕ, _+_, _-_, _≤_, _<_}
 use mathlib.Core.Path.{_≡_, refl, sym, ap, ap₂, subst, _∙_}
 use mathlib.Core.Bool.{_||_}
@@ -131,7 +131,8 @@ module _ (d : Dialect) (s out : List ℕ) (b : Bytes s) (R : Rpc → Told → Li
       → (Gated (d .mode) (tell (acceptOf d s) .number) → ⊥) ↔ ((x : Rpc) × Within d s x)
   given-takes other = (λ h. forth h (given (acceptOf d s) refl), λ w g. back (w .1) g (given (acceptOf d s) refl))
     where
-      forth : {a : Told} {l : List ℕ} → (Gated (d .mode) (a .number) → ⊥) → Given d s out R a l → (x : Rpc) × Within d s x
+      forth : {a : Told} {l : List ℕ} → (Gated (d .mode) (a .number) → ⊥) → Given d s out R a l
+          → (x : Rpc) × Within d s x
       forth h (refuses r) = absurd (h (refusal-gated r))
       forth h (takes {x} w r) = (x, w)
 
@@ -172,7 +173,7 @@ encode-only {d} {s} {x} {a} {l} out w r =
 writes-other : {mode : Mode} {xs out : List ℕ} {a : Told} {l : List ℕ} → Writes xs out a l
     → Gated mode (a .number) → ⊥
 writes-other (fits h) g = let z = gated-bound g in omega (arith, z .0)
-writes-other (short h) g = gated-bound g .1 refl
+writes-other (short h) g = let z = gated-bound g in omega (arith, z .1)
 
 -- encode tells a and leaves l exactly where the scope has it do so
 pub encode-exactly : (d : Dialect) (s out : List ℕ) (a : Told) (l : List ℕ) → Bytes s
@@ -182,8 +183,9 @@ encode-exactly d s out a l b =
     given-exactly d s out b (λ x. Writes (encodeRpc x) out) (λ c. encodedTold (encodeChecked d s out c))
     (encodedChecked d s out) (λ why. refl) (λ why. refl) (λ x. encode-fine out) (λ x z k. encode-only out) a l
 
--- it tells none of 10, 1 to 7, 14 to 16 and 11 exactly where the body means an RPC within capacity
-pub encode-takes : (d : Dialect) (s out : List ℕ) → Bytes s → (Gated (d .mode) (encodedTold (encodeAnswer d s out) .number) → ⊥)
+-- it tells none of these refusals exactly where the body means an RPC within capacity
+pub encode-takes : (d : Dialect) (s out : List ℕ) → Bytes s
+    → (Gated (d .mode) (encodedTold (encodeAnswer d s out) .number) → ⊥)
     ↔ ((x : Rpc) × Within d s x)
 unfolding encodeAnswer
 encode-takes d s out b =
@@ -210,7 +212,8 @@ none-in i (Count k) g l q = let m = message-missing i k g q in q ∙ ap Count (m
 module _ {d : Dialect} {s : List ℕ} {x : Rpc} (w : Within d s x) (i : ℕ) (out : List ℕ)
     (R : RawMessage → Told → List ℕ → Type 0) (tell : MessageAt → Told) (left : MessageAt → List ℕ)
     (tell-none : (n : ℕ) → tell (Count n) ≡ told no-message (n ∷ [])) (left-none : (n : ℕ) → left (Count n) ≡ out) where
-  of-message : ((a e : ℕ) (m : RawMessage) → IsMessage (d .mode) (between s a e) m → R m (tell (At a e)) (left (At a e)))
+  of-message : ((a e : ℕ) (m : RawMessage) → IsMessage (d .mode) (between s a e) m
+      → R m (tell (At a e)) (left (At a e)))
       → (r : MessageAt) → messageAt (d .mode) s i ≡ r → OfMessage i (x .publish) out R (tell r) (left r)
   of-message fine (At a e) q = let f = message-found i a e (w .means) q in such (f .1) (fine a e (f .0) (f .2))
   of-message fine (Count n) q =
@@ -220,7 +223,8 @@ module _ {d : Dialect} {s : List ℕ} {x : Rpc} (w : Within d s x) (i : ℕ) (ou
       (subst (λ (l : List ℕ). OfMessage i (x .publish) out R (told no-message (length (x .publish) ∷ [])) l)
       (sym (left-none n)) (no-such (m .1)))
 
-  of-message-only : {z : Told} {l : List ℕ} → ((a e : ℕ) (m : RawMessage) → IsMessage (d .mode) (between s a e) m → R m z l
+  of-message-only : {z : Told} {l : List ℕ}
+      → ((a e : ℕ) (m : RawMessage) → IsMessage (d .mode) (between s a e) m → R m z l
       → (tell (At a e) ≡ z) × (left (At a e) ≡ l)) → OfMessage i (x .publish) out R z l
       → (tell (messageAt (d .mode) s i) ≡ z) × (left (messageAt (d .mode) s i) ≡ l)
   of-message-only only (no-such h) =
@@ -233,28 +237,31 @@ module _ {d : Dialect} {s : List ℕ} {x : Rpc} (w : Within d s x) (i : ℕ) (ou
 
 -- ---- sign_bytes
 module _ {d : Dialect} {s : List ℕ} {x : Rpc} (i : ℕ) (out : List ℕ) (w : Within d s x) where
-  sign-fine : OfMessage i (x .publish) out (λ m. Writes (signBytes m) out) (messageTold (signAt (d .mode) s out (messageAt (d .mode) s i)))
+  sign-fine : OfMessage i (x .publish) out (λ m. Writes (signBytes m) out)
+      (messageTold (signAt (d .mode) s out (messageAt (d .mode) s i)))
       (signedAt (d .mode) s out (messageAt (d .mode) s i))
   sign-fine =
-      of-message w i out (λ m. Writes (signBytes m) out) (λ r. messageTold (signAt (d .mode) s out r)) (signedAt (d .mode) s out)
-      (λ n. refl) (λ n. refl)
+      of-message w i out (λ m. Writes (signBytes m) out) (λ r. messageTold (signAt (d .mode) s out r))
+      (signedAt (d .mode) s out) (λ n. refl) (λ n. refl)
       (λ a e m g. subst (λ (bs : List ℕ). Writes (signBytes m) out (messageTold (message (answer bs out)))
       (written bs out)) (sym (sign-written (d .mode) g))
       (writes (λ z. messageTold (message z)) (λ n. refl) (λ n. refl) (signBytes m) out)) (messageAt (d .mode) s i) refl
 
   sign-only : {t : Told} {l : List ℕ} → OfMessage i (x .publish) out (λ m. Writes (signBytes m) out) t l
-      → (messageTold (signAt (d .mode) s out (messageAt (d .mode) s i)) ≡ t) × (signedAt (d .mode) s out (messageAt (d .mode) s i) ≡ l)
+      → (messageTold (signAt (d .mode) s out (messageAt (d .mode) s i)) ≡ t)
+      × (signedAt (d .mode) s out (messageAt (d .mode) s i) ≡ l)
   sign-only {t} {l} =
-      of-message-only w i out (λ m. Writes (signBytes m) out) (λ r. messageTold (signAt (d .mode) s out r)) (signedAt (d .mode) s out)
-      (λ n. refl) (λ n. refl)
+      of-message-only w i out (λ m. Writes (signBytes m) out) (λ r. messageTold (signAt (d .mode) s out r))
+      (signedAt (d .mode) s out) (λ n. refl) (λ n. refl)
       (λ a e m g r. subst (λ (bs : List ℕ). (messageTold (message (answer bs out)) ≡ t) × (written bs out ≡ l))
       (sym (sign-written (d .mode) g))
       (writes-only (λ z. messageTold (message z)) (λ n. refl) (λ n. refl) (signBytes m) out r))
 
-of-message-other : {mode : Mode} {i : ℕ} {ms : List RawMessage} {out : List ℕ} {R : RawMessage → Told → List ℕ → Type 0} {a : Told}
-    {l : List ℕ} → ((m : RawMessage) (z : Told) (k : List ℕ) → R m z k → Gated mode (z .number) → ⊥)
+of-message-other : {mode : Mode} {i : ℕ} {ms : List RawMessage} {out : List ℕ}
+    {R : RawMessage → Told → List ℕ → Type 0} {a : Told} {l : List ℕ}
+    → ((m : RawMessage) (z : Told) (k : List ℕ) → R m z k → Gated mode (z .number) → ⊥)
     → OfMessage i ms out R a l → Gated mode (a .number) → ⊥
-of-message-other other (no-such h) g = let z = gated-bound g in omega (arith, z .3)
+of-message-other other (no-such h) g = let z = gated-bound g in omega (arith, z .1)
 of-message-other {a = a} {l = l} other (such {m} n r) g = other m a l r g
 
 -- sign_bytes tells a and leaves l exactly where the scope has it do so
@@ -331,13 +338,15 @@ id-same mode (is-message {s = p} {es = es} g u) =
     (w .entries) refl)
 
 -- by the places of from and seqno
-pub id-named : (mode : Mode) {p : List ℕ} {m : RawMessage} (a e b f : ℕ) → IsMessage mode p m → idParts mode p ≡ parts.Parts a e b f
+pub id-named : (mode : Mode) {p : List ℕ} {m : RawMessage} (a e b f : ℕ) → IsMessage mode p m
+    → idParts mode p ≡ parts.Parts a e b f
     → messageId m ≡ id (between p a e ++ between p b f)
 id-named mode {p} a e b f i q = sym (id-same mode i) ∙ ap (toId p) q
 
 module _ {d : Dialect} {s : List ℕ} {x : Rpc} (pre : List ℕ) (i : ℕ) (out : List ℕ) (w : Within d s x) where
   id-fine : OfMessage i (x .publish) out (λ m. WritesId pre out (messageId m))
-      (messageTold (answerAt (d .mode) pre s out (messageAt (d .mode) s i))) (leftAt (d .mode) pre s out (messageAt (d .mode) s i))
+      (messageTold (answerAt (d .mode) pre s out (messageAt (d .mode) s i)))
+      (leftAt (d .mode) pre s out (messageAt (d .mode) s i))
   id-fine =
       of-message w i out (λ m. WritesId pre out (messageId m)) (λ r. messageTold (answerAt (d .mode) pre s out r))
       (leftAt (d .mode) pre s out) (λ n. refl) (λ n. refl)
@@ -347,7 +356,8 @@ module _ {d : Dialect} {s : List ℕ} {x : Rpc} (pre : List ℕ) (i : ℕ) (out 
       (id-gives pre (between s a e) out (idParts (d .mode) (between s a e)))) (messageAt (d .mode) s i) refl
 
   id-told : {t : Told} {l : List ℕ} → OfMessage i (x .publish) out (λ m. WritesId pre out (messageId m)) t l
-      → (messageTold (answerAt (d .mode) pre s out (messageAt (d .mode) s i)) ≡ t) × (leftAt (d .mode) pre s out (messageAt (d .mode) s i) ≡ l)
+      → (messageTold (answerAt (d .mode) pre s out (messageAt (d .mode) s i)) ≡ t)
+      × (leftAt (d .mode) pre s out (messageAt (d .mode) s i) ≡ l)
   id-told {t} {l} =
       of-message-only w i out (λ m. WritesId pre out (messageId m)) (λ r. messageTold (answerAt (d .mode) pre s out r))
       (leftAt (d .mode) pre s out) (λ n. refl) (λ n. refl)
@@ -356,9 +366,9 @@ module _ {d : Dialect} {s : List ℕ} {x : Rpc} (pre : List ℕ) (i : ℕ) (out 
 
 id-other : {mode : Mode} {pre out : List ℕ} {n : Id} {a : Told} {l : List ℕ} → WritesId pre out n a l
     → Gated mode (a .number) → ⊥
-id-other from-missing g = let z = gated-bound g in omega (arith, z .3)
-id-other from-invalid g = let z = gated-bound g in omega (arith, z .3)
-id-other seqno-invalid g = let z = gated-bound g in omega (arith, z .3)
+id-other from-missing g = let z = gated-bound g in omega (arith, z .1)
+id-other from-invalid g = let z = gated-bound g in omega (arith, z .1)
+id-other seqno-invalid g = let z = gated-bound g in omega (arith, z .1)
 id-other (writes-id r) g = writes-other r g
 
 -- message_id and seen_message_id tell a and leave l exactly where the scope has them do so
@@ -367,7 +377,8 @@ pub id-exactly : (pre : List ℕ) (d : Dialect) (s : List ℕ) (i : ℕ) (out : 
 unfolding idAnswer idLeft
 id-exactly pre d s i out a l b =
     given-exactly d s out b (λ x. OfMessage i (x .publish) out (λ m. WritesId pre out (messageId m)))
-    (λ c. messageTold (answerChecked (d .mode) pre s i out c)) (leftChecked (d .mode) pre s i out) (λ why. refl) (λ why. refl)
+    (λ c. messageTold (answerChecked (d .mode) pre s i out c)) (leftChecked (d .mode) pre s i out)
+    (λ why. refl) (λ why. refl)
     (λ x. id-fine pre i out) (λ x z k w q. id-told pre i out w q) a l
 
 pub id-takes : (pre : List ℕ) (d : Dialect) (s : List ℕ) (i : ℕ) (out : List ℕ) → Bytes s
@@ -375,5 +386,6 @@ pub id-takes : (pre : List ℕ) (d : Dialect) (s : List ℕ) (i : ℕ) (out : Li
 unfolding idAnswer
 id-takes pre d s i out b =
     given-takes d s out b (λ x. OfMessage i (x .publish) out (λ m. WritesId pre out (messageId m)))
-    (λ c. messageTold (answerChecked (d .mode) pre s i out c)) (leftChecked (d .mode) pre s i out) (λ why. refl) (λ why. refl)
+    (λ c. messageTold (answerChecked (d .mode) pre s i out c)) (leftChecked (d .mode) pre s i out)
+    (λ why. refl) (λ why. refl)
     (λ x. id-fine pre i out) (λ x z k. of-message-other (λ m y j. id-other))

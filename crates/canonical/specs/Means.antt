@@ -71,7 +71,8 @@ pub bytes-body : (mode : Mode) (n : ℕ) → 1 ≤ n → n ≤ 536870911 → (ds
     → Body mode (repeated (bytesField n) ds) (bytesEntries n ds)
 unfolding bytesField tag
 bytes-body mode n l m [] none-left = no-fields
-bytes-body mode n l m (d ∷ ds) (p and ps) = body-append (one-body mode n l m (len-prefix p)) (bytes-body mode n l m ds ps)
+bytes-body mode n l m (d ∷ ds) (p and ps) = body-append (one-body mode n l m (len-prefix p))
+    (bytes-body mode n l m ds ps)
 
 number-body : (mode : Mode) (n : ℕ) → 1 ≤ n → n ≤ 536870911 → (vs : List ℕ) → Each Small vs
     → Body mode (repeated (varintField n) vs) (numberEntries n vs)
@@ -271,7 +272,8 @@ sub-opts-means mode x z u =
     (ap₂ (λ (y : Option Bool) (z : Option (List ℕ)). record { subscribe = y; «topic_id» = z }) v1 v2)
     (is-sub-opts w (subst (Each Utf8) (sym d) u))
 
-pub sub-opts-canonical : (mode to : Mode) (s : List ℕ) (x : SubOpts) → IsSubOpts mode s x → IsSubOpts to (encodeSubOpts x) x
+pub sub-opts-canonical : (mode to : Mode) (s : List ℕ) (x : SubOpts) → IsSubOpts mode s x
+    → IsSubOpts to (encodeSubOpts x) x
 sub-opts-canonical mode to _ x (is-sub-opts g u) = sub-opts-means to x (each-last (bytes-sized 2 g)) (each-last u)
 
 pub iwant-canonical : (mode to : Mode) (s : List ℕ) (x : ControlIWant) → IsIWant mode s x → IsIWant to (encodeIWant x) x
@@ -281,14 +283,16 @@ iwant-canonical mode to _ _ (is-iwant {s = s} {es = es} g) =
     means-as (IsIWant to) refl (ap (λ (y : List (List ℕ)). record { «message_ids» = y }) (bytes-here 1 ds))
     (is-iwant (bytes-body to 1 (omega arith) (omega arith) ds (bytes-sized 1 g)))
 
-pub idontwant-means : (mode : Mode) (x : ControlIDontWant) → Each Sized (x .«message_ids») → IsIDontWant mode (encodeIDontWant x) x
+pub idontwant-means : (mode : Mode) (x : ControlIDontWant) → Each Sized (x .«message_ids»)
+    → IsIDontWant mode (encodeIDontWant x) x
 unfolding encodeIDontWant
 idontwant-means mode x z =
     let ds = x .«message_ids» in
     means-as (IsIDontWant mode) refl (ap (λ (y : List (List ℕ)). record { «message_ids» = y }) (bytes-here 1 ds))
     (is-idontwant (bytes-body mode 1 (omega arith) (omega arith) ds z))
 
-pub idontwant-canonical : (mode to : Mode) (s : List ℕ) (x : ControlIDontWant) → IsIDontWant mode s x → IsIDontWant to (encodeIDontWant x) x
+pub idontwant-canonical : (mode to : Mode) (s : List ℕ) (x : ControlIDontWant) → IsIDontWant mode s x
+    → IsIDontWant to (encodeIDontWant x) x
 idontwant-canonical mode to _ x (is-idontwant g) = idontwant-means to x (bytes-sized 1 g)
 
 pub graft-means : (mode : Mode) (x : ControlGraft) → Each Sized (opt (x .«topic_id»)) → Each Utf8 (opt (x .«topic_id»))
@@ -298,7 +302,8 @@ graft-means mode x z u =
     let t = x .«topic_id» in
     means-as (IsGraft mode) (optional-opt (bytesField 1) t)
     (ap (λ (y : Option (List ℕ)). record { «topic_id» = y }) (ap last (bytes-here 1 (opt t)) ∙ last-opt t))
-    (is-graft (bytes-body mode 1 (omega arith) (omega arith) (opt t) z) (subst (Each Utf8) (sym (bytes-here 1 (opt t))) u))
+    (is-graft (bytes-body mode 1 (omega arith) (omega arith) (opt t) z)
+    (subst (Each Utf8) (sym (bytes-here 1 (opt t))) u))
 
 pub graft-canonical : (mode to : Mode) (s : List ℕ) (x : ControlGraft) → IsGraft mode s x → IsGraft to (encodeGraft x) x
 graft-canonical mode to _ x (is-graft g u) = graft-means to x (each-last (bytes-sized 1 g)) (each-last u)
@@ -320,7 +325,8 @@ ihave-canonical mode to _ _ (is-ihave {s = s} {es = es} g u) =
     (ap last d1 ∙ last-opt t) d2)
     (is-ihave w (subst (Each Utf8) (sym d1) (each-last u)))
 
-pub peer-info-means : (mode : Mode) (x : PeerInfo) → Each Sized (opt (x .«peer_id»)) → Each Sized (opt (x .«signed_peer_record»))
+pub peer-info-means : (mode : Mode) (x : PeerInfo) → Each Sized (opt (x .«peer_id»))
+    → Each Sized (opt (x .«signed_peer_record»))
     → IsPeerInfo mode (encodePeerInfo x) x
 unfolding encodePeerInfo
 peer-info-means mode x z y =
@@ -334,12 +340,15 @@ peer-info-means mode x z y =
     ∙ append-nil (opt t) in
     let d2 : bytesIn 2 (a ++ b) ≡ opt q =
     found 2 a b [] (opt q) (bytes-there 1 2 refl (opt t)) (bytes-here 2 (opt q)) in
-    means-as (IsPeerInfo mode) (ap₂ (λ (y z : List ℕ). y ++ z) (optional-opt (bytesField 1) t) (optional-opt (bytesField 2) q))
+    means-as (IsPeerInfo mode)
+    (ap₂ (λ (y z : List ℕ). y ++ z) (optional-opt (bytesField 1) t) (optional-opt (bytesField 2) q))
     (ap₂ (λ (y z : Option (List ℕ)). record { «peer_id» = y; «signed_peer_record» = z }) (ap last d1 ∙ last-opt t)
     (ap last d2 ∙ last-opt q)) (is-peer-info w)
 
-pub peer-info-canonical : (mode to : Mode) (s : List ℕ) (x : PeerInfo) → IsPeerInfo mode s x → IsPeerInfo to (encodePeerInfo x) x
-peer-info-canonical mode to _ x (is-peer-info g) = peer-info-means to x (each-last (bytes-sized 1 g)) (each-last (bytes-sized 2 g))
+pub peer-info-canonical : (mode to : Mode) (s : List ℕ) (x : PeerInfo) → IsPeerInfo mode s x
+    → IsPeerInfo to (encodePeerInfo x) x
+peer-info-canonical mode to _ x (is-peer-info g) =
+    peer-info-means to x (each-last (bytes-sized 1 g)) (each-last (bytes-sized 2 g))
 
 -- submessages whose encodings mean them and fit a length
 pub record Entries {X : Type 0} (R : List ℕ → X → Type 0) (enc : X → List ℕ) (xs : List X) : Type 0 where
@@ -347,7 +356,8 @@ pub record Entries {X : Type 0} (R : List ℕ → X → Type 0) (enc : X → Lis
   pub sized : Each Sized (encodings enc xs)
 
 pub prune-means : (mode : Mode) (x : ControlPrune) → Each Sized (opt (x .«topic_id»)) → Each Utf8 (opt (x .«topic_id»))
-    → Entries (IsPeerInfo mode) encodePeerInfo (x .peers) → Each Small (opt (x .backoff)) → IsPrune mode (encodePrune x) x
+    → Entries (IsPeerInfo mode) encodePeerInfo (x .peers) → Each Small (opt (x .backoff))
+    → IsPrune mode (encodePrune x) x
 unfolding encodePrune mkPrune
 prune-means mode x z u h m =
     let t = x .«topic_id» in
@@ -421,7 +431,8 @@ idontwants-of mode to V12 s es ds g h =
       sized = subs-sized encodeIDontWant (idontwant-shorter mode) h (bytes-sized 5 g);
     }
 
-idontwants-join : (mode : Mode) (e : Edition) (xs ys : List ControlIDontWant) → IDontWants mode e xs → IDontWants mode e ys
+idontwants-join : (mode : Mode) (e : Edition) (xs ys : List ControlIDontWant) → IDontWants mode e xs
+    → IDontWants mode e ys
     → IDontWants mode e (xs ++ ys)
 idontwants-join mode V11 xs ys p q = ap₂ (λ (x y : List ControlIDontWant). x ++ y) p q
 idontwants-join mode V12 xs ys p q = entries-join p q
@@ -432,7 +443,8 @@ idontwants-sized mode V11 ds h = rw h none-left
 idontwants-sized mode V12 ds h = h .sized
 
 idontwants-mean : (mode : Mode) (e : Edition) (es : List Entry) (ds : List ControlIDontWant)
-    → bytesIn 5 es ≡ encodings encodeIDontWant ds → IDontWants mode e ds → Pairs (IsIDontWant mode) (idontwantsIn e es) ds
+    → bytesIn 5 es ≡ encodings encodeIDontWant ds → IDontWants mode e ds
+    → Pairs (IsIDontWant mode) (idontwantsIn e es) ds
 idontwants-mean mode V11 es ds q h = rw h no-pairs
 idontwants-mean mode V12 es ds q h = subst (λ (l : List (List ℕ)). Pairs (IsIDontWant mode) l ds) (sym q) (h .mean)
 
@@ -499,7 +511,8 @@ control-sound d x o =
     (body-append (bytes-body (d .mode) 2 (omega arith) (omega arith) e2 (o .iwants .sized))
     (body-append (bytes-body (d .mode) 3 (omega arith) (omega arith) e3 (o .grafts .sized))
     (body-append (bytes-body (d .mode) 4 (omega arith) (omega arith) e4 (o .prunes .sized))
-    (bytes-body (d .mode) 5 (omega arith) (omega arith) e5 (idontwants-sized (d .mode) (d .edition) ds (o .idontwants)))))) in
+    (bytes-body (d .mode) 5 (omega arith) (omega arith) e5
+    (idontwants-sized (d .mode) (d .edition) ds (o .idontwants)))))) in
     let d1 = found-of 1 e1 e2 e3 e4 e5 e1 [] [] [] [] (bytes-here 1 e1) (bytes-there 2 1 refl e2)
     (bytes-there 3 1 refl e3) (bytes-there 4 1 refl e4) (bytes-there 5 1 refl e5) ∙ append-nil e1 in
     let d2 = found-of 2 e1 e2 e3 e4 e5 [] e2 [] [] [] (bytes-there 1 2 refl e1) (bytes-here 2 e2)

@@ -41,8 +41,9 @@ use Rattle.canon.specs.Canon.{canonBody, signOf}
 use Rattle.canon.specs.Shorter.{signedFields}
 use Rattle.canon.specs.Written.{canon-written, canon-message}
 use Rattle.canon.specs.Modes.{same-canon, same-signed, same-place, message-accepted}
-use Rattle.canonical.specs.Means.{opt, bytesEntries, body-append, bytes-body, bytes-here, bytes-there, bytes-sized}
-use Rattle.canonical.specs.Means.{each-last, optional-opt, last-opt, found-of, Around, canonical-around}
+use Rattle.canonical.specs.Means.{opt, bytesEntries, body-append, bytes-body, bytes-here, bytes-there}
+use Rattle.canonical.specs.Means.{bytes-sized, each-last, optional-opt, last-opt, found-of, Around}
+use Rattle.canonical.specs.Means.{canonical-around}
 
 -- ---- what is written holds no groups
 -- around the messages the canonical bytes are fields of the first mode
@@ -142,7 +143,8 @@ sign-by e s i out Fine q =
     let t = is-taken (spoken Plain e) s q in
     let p = same-place e s (t .records) (t .counts) i in
     let r = sign-at s out (messageAt Plain s i)
-    (λ a z h. let y = message-accepted e s (t .records) i a z (t .counts) h in same-signed (between s a z) (y .0) (y .1)) in
+    (λ a z h. let y = message-accepted e s (t .records) i a z (t .counts) h in
+    same-signed (between s a z) (y .0) (y .1)) in
     (ap (signAt Groups s out) p ∙ r .0, ap (signedAt Groups s out) p ∙ r .1)
 
 pub same-sign : (e : Edition) (s : List ℕ) (i : ℕ) (out : List ℕ) → NoGroupBody e s
@@ -161,7 +163,8 @@ same-parts p n q = ap (λ (t : Slots). onFrom (t .first) (t .third)) (same-slots
 
 id-at : (pre s out : List ℕ) (r : MessageAt)
     → ((a e : ℕ) → r ≡ At a e → idParts Groups (between s a e) ≡ idParts Plain (between s a e))
-    → (answerAt Groups pre s out r ≡ answerAt Plain pre s out r) × (leftAt Groups pre s out r ≡ leftAt Plain pre s out r)
+    → (answerAt Groups pre s out r ≡ answerAt Plain pre s out r)
+    × (leftAt Groups pre s out r ≡ leftAt Plain pre s out r)
 id-at pre s out (Count n) h = (refl, refl)
 id-at pre s out (At a e) h =
     let b = h a e refl in
@@ -175,7 +178,8 @@ id-by pre e s i out Fine q =
     let t = is-taken (spoken Plain e) s q in
     let p = same-place e s (t .records) (t .counts) i in
     let r = id-at pre s out (messageAt Plain s i)
-    (λ a z h. let y = message-accepted e s (t .records) i a z (t .counts) h in same-parts (between s a z) (y .0) (y .1)) in
+    (λ a z h. let y = message-accepted e s (t .records) i a z (t .counts) h in
+    same-parts (between s a z) (y .0) (y .1)) in
     (ap (answerAt Groups pre s out) p ∙ r .0, ap (leftAt Groups pre s out) p ∙ r .1)
 
 pub same-id : (pre : List ℕ) (e : Edition) (s : List ℕ) (i : ℕ) (out : List ℕ) → NoGroupBody e s

@@ -1,7 +1,8 @@
 -- The nine rows of the scope's table "Bodies and answers" that are marked P, as one theorem over the calls: in every
 -- dialect, for every lent table and buffer, what `decode` and `encode` tell and leave, and in the third row also
--- `sign_bytes` of message 0. A refusal has its place beside the Rust's own numbers. Other bodies stand apart, those that
--- the editions do not read alike, both readings beside each other, and those with groups, where they are passed over.
+-- `sign_bytes` of message 0. A refusal has its place beside the Rust's own numbers. Other bodies stand apart: those
+-- that the editions do not read alike, both readings beside each other, and those with groups, where groups are passed
+-- over.
 use Prim.Native.Nat.{ℕ, zero, suc, _+_, _*_, _/_, _≤_, _<_}
 use mathlib.Core.Path.{_≡_, refl, sym, ap, subst, _∙_}
 use mathlib.Core.Bool.{Bool, true, false, cond}
@@ -279,10 +280,10 @@ row-three Groups e = refuses-by (spoken Groups e) (0x0b ∷ []) (nowhere GroupOp
 
 pub rows : (d : Dialect) → PRows d
 unfolding uvarint bytesOf readUvarint readFrom groupOf isUtf8 run readTag readLen readVarint skipFixed skipField
-    readValue readField walkFrom walkAt tag bytesField varintField roleOf rank ownOf textCount textSpot toDepth overKinds
-    counted spotIn bodyRecords setPlace withField slotsOf hasField hasControl placed slotIn numbered ownPart heldPart canon entriesOf
-    mergedOf bodyPart canonBody signOf messageAt ownRows rowsOf numberWords placeWords placesWords wordsOf kindCode
-    readBack declines
+    readValue readField walkFrom walkAt tag bytesField varintField roleOf rank ownOf textCount textSpot toDepth
+    overKinds counted spotIn bodyRecords setPlace withField slotsOf hasField hasControl placed slotIn numbered ownPart
+    heldPart canon entriesOf mergedOf bodyPart canonBody signOf messageAt ownRows rowsOf numberWords placeWords
+    placesWords wordsOf kindCode readBack declines
 rows d =
     record {
       empty = (none-by d [] false refl refl refl, encodes-by d [] [] 0 refl refl);
@@ -311,9 +312,9 @@ pub worked : (d : Dialect) →
     × (signOf (d .mode) (0x22 ∷ 0x01 ∷ 0x61 ∷ 0x22 ∷ 0x01 ∷ 0x62 ∷ []) ≡ signPrefix
     ++ (0x22 ∷ 0x01 ∷ 0x61 ∷ 0x22 ∷ 0x01 ∷ 0x62 ∷ []))
 unfolding uvarint bytesOf readUvarint readFrom groupOf isUtf8 run readTag readLen readVarint skipFixed skipField
-    readValue readField walkFrom walkAt tag bytesField varintField roleOf rank ownOf textCount textSpot toDepth overKinds
-    counted spotIn bodyRecords setPlace withField slotsOf hasField hasControl decodeAnswer placed slotIn numbered ownPart heldPart
-    canon entriesOf mergedOf bodyPart canonBody signOf declines
+    readValue readField walkFrom walkAt tag bytesField varintField roleOf rank ownOf textCount textSpot toDepth
+    overKinds counted spotIn bodyRecords setPlace withField slotsOf hasField hasControl decodeAnswer placed slotIn
+    numbered ownPart heldPart canon entriesOf mergedOf bodyPart canonBody signOf declines
 worked d = (same-canon (d .mode) (d .edition) V11 (0x1a ∷ 0x02 ∷ 0x28 ∷ 0x01 ∷ []) refl, refl)
 
 -- ---- bodies that the editions do not read alike
@@ -602,8 +603,8 @@ groupRecord =
 pub rows-groups : (e : Edition) → GroupRows e
 unfolding uvarint bytesOf readUvarint readFrom groupOf isUtf8 run readTag readLen readVarint skipFixed skipValue passed
     skipFrom skipGroup skipField readValue readField walkFrom walkAt tag bytesField varintField roleOf rank ownOf
-    textCount textSpot toDepth overKinds counted spotIn bodyRecords setPlace withField slotsOf hasField hasControl placed
-    slotIn numbered ownPart heldPart canon entriesOf mergedOf bodyPart canonBody signOf messageAt ownRows rowsOf
+    textCount textSpot toDepth overKinds counted spotIn bodyRecords setPlace withField slotsOf hasField hasControl
+    placed slotIn numbered ownPart heldPart canon entriesOf mergedOf bodyPart canonBody signOf messageAt ownRows rowsOf
     numberWords placeWords placesWords wordsOf kindCode readBack declines
 rows-groups e =
     record {

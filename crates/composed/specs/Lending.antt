@@ -11,7 +11,10 @@ use lib.ListN.{length, take, drop, drop-of-length-le}
 use lib.Seq.{sets, sets-eq, take-at}
 use lib.Dec.{eqb}
 use borrow.Author.Tests.{eq-eqb, eqb-true, le-leb, le-ltb}
+use Rattle.basis.specs.declared.Edition.the-variants.{V11}
+use Rattle.basis.specs.declared.Mode.the-variants as mode
 use Rattle.basis.specs.declared.Dialect.{Dialect}
+use Rattle.basis.specs.Dialect.{spoken}
 use Rattle.basis.specs.Cases.{both}
 use Rattle.basis.specs.Bytes.{Bytes}
 use Rattle.basis.specs.Told.{done}
@@ -19,7 +22,7 @@ use Rattle.basis.specs.Writing.{written}
 use Rattle.schema.specs.declared.Kind.the-variants as kind
 use Rattle.schema.specs.declared.Tested.{Tested}
 use Rattle.message.specs.declared.Record.{Record}
-use Rattle.message.specs.Rows.{rowsOf, wordsOfAll, firstDialect}
+use Rattle.message.specs.Rows.{rowsOf, wordsOfAll}
 use Rattle.message.specs.RowsLaws.{all-length}
 use Rattle.message.specs.Decode.{hasControl, onCount, decodeAnswer, leaves, decodeTable}
 use Rattle.message.specs.Told.{decodedTold}
@@ -105,7 +108,8 @@ meant-lends {d} (is-rpc {s = s} {es = es} {ss = ss} {ms = ms} {cs = cs} g h1 h2 
       iwant = c .iwant;
       idontwant = c .idontwant;
     }) in
-    let l = waits-lent s (length s) false false rs own (rows-inside (d .mode) (kind.Rpc (d .edition)) 0 (length s) s (omega arith)) w in
+    let l = waits-lent s (length s) false false rs own
+    (rows-inside (d .mode) (kind.Rpc (d .edition)) 0 (length s) s (omega arith)) w in
     let u = texts-fine s rs (subst Texts (sym e) (meant-texts d h1 h2 h3)) in
     let k = words-lent rs own in
     let m = all-length rs in
@@ -134,7 +138,8 @@ unfolding decodeTable decodeAnswer
 decoded-words {d} {s} {x} table w r =
     let n = recordsIn x in
     let ws = wordsOfAll (rowsOf (d .mode) (kind.Rpc (d .edition)) 0 s) in
-    let l : length ws ≡ n * 20 = all-length (rowsOf (d .mode) (kind.Rpc (d .edition)) 0 s) ∙ omega (arith, rpc-records (w .means)) in
+    let l : length ws ≡ n * 20 = all-length (rowsOf (d .mode) (kind.Rpc (d .edition)) 0 s)
+    ∙ omega (arith, rpc-records (w .means)) in
     ap (λ (c : Tested). take (n * 20) (leaves d s table (onCount (length table / 20) (hasControl (d .mode) s) c)))
     (records-within w)
     ∙ simp (le-ltb (length table / 20) n r)
@@ -219,7 +224,7 @@ every-rpc d x q w b =
 -- where texts are UTF-8, numbers are below 2^64, and the encoding is within capacity
 pub every-plain-rpc : (x : Rpc) → Sayable x → Plain x → Bytes (encodeRpc x) → length (encodeRpc x) ≤ 65536 → recordsIn x ≤ 512
     → CanSay x
-every-plain-rpc x q p b l n = every-rpc firstDialect x q (plain-within firstDialect x p q l n) b
+every-plain-rpc x q p b l n = every-rpc (spoken mode.Plain V11) x q (plain-within (spoken mode.Plain V11) x p q l n) b
 
 -- ---- and it is written under known flags, where no message is refused: a test looks at a message's fields alone
 weighed-renewed : (flags : ℕ) (m : RawMessage) → weighed flags (renewed m) ≡ weighed flags m
@@ -283,7 +288,8 @@ written-again d flags t b table w h l =
     let n = lent-records t b (p .taken .well) in
     let z = whole-rows t b (p .taken .well) in
     let k : length t ≡ recordsIn (saidOf t b) * 20 = omega arith in
-    let e : take (length t) (decodeTable d (bodyOf t b) table) ≡ wordsOfAll (rowsOf (d .mode) (kind.Rpc (d .edition)) 0 (bodyOf t b)) =
+    let e : take (length t) (decodeTable d (bodyOf t b) table)
+    ≡ wordsOfAll (rowsOf (d .mode) (kind.Rpc (d .edition)) 0 (bodyOf t b)) =
     ap (λ (i : ℕ). take i (decodeTable d (bodyOf t b) table)) k ∙ decoded-words table m (omega arith) in
     let c = lend-sayable d (saidOf t b) (said-sayable b (lentRows t)) m in
     subst (λ (u : List ℕ). Alike flags t b u (bodyOf t b)) (sym e)

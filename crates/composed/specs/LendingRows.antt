@@ -84,8 +84,10 @@ unfolding rowInside
 leaf-inside k n a e f h l =
     and-both (leb a e) _ (le-leb a e h) (and-both (leb e n) (fieldsInside n a k noSlots) (le-leb e n l) f)
 
-role-inside : (mode : Mode) (base n : ℕ) (s : List ℕ) (f : Field) (r : Role) → base + length s ≤ n → f .start ≤ f .next → f .next ≤ length s
-    → ((j : Kind) (form : Form) (b : ℕ) (p : List ℕ) → r ≡ Sub j form → b + length p ≤ n → Each (Lies n) (rowsOf mode j b p))
+role-inside : (mode : Mode) (base n : ℕ) (s : List ℕ) (f : Field) (r : Role) → base + length s ≤ n
+    → f .start ≤ f .next → f .next ≤ length s
+    → ((j : Kind) (form : Form) (b : ℕ) (p : List ℕ) → r ≡ Sub j form → b + length p ≤ n
+    → Each (Lies n) (rowsOf mode j b p))
     → Each (Lies n) (roleRows (rowsOf mode) base s f r)
 unfolding fieldsInside
 role-inside mode base n s f Skip l o w h = none-left
@@ -115,7 +117,8 @@ along-inside mode k base n s l h =
     rest)
     0
 
-pub rows-inside : (mode : Mode) (k : Kind) (base n : ℕ) (s : List ℕ) → base + length s ≤ n → Each (Lies n) (rowsOf mode k base s)
+pub rows-inside : (mode : Mode) (k : Kind) (base n : ℕ) (s : List ℕ) → base + length s ≤ n
+    → Each (Lies n) (rowsOf mode k base s)
 rows-inside mode =
     by-rank (λ k. (base n : ℕ) (s : List ℕ) → base + length s ≤ n → Each (Lies n) (rowsOf mode k base s))
     (λ k ih base n s l. subst (Each (Lies n)) (sym (rows-along mode k base s))

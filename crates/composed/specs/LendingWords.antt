@@ -23,8 +23,9 @@ use Rattle.protobuf.specs.declared.Skip.the-variants as skip
 use Rattle.protobuf.specs.declared.Field.{Field}
 use Rattle.protobuf.specs.declared.Step.the-variants as step
 use Rattle.protobuf.specs.Field.{after, readTag, readLen, readVarint, skipField, ofValue, ofPart, ofSkip, readValue, ofTag, readField}
+use Rattle.protobuf.specs.Grammar.{maxGroups}
 use Rattle.protobuf.specs.Laws.{part-fits}
-use Rattle.protobuf.specs.Exactly.{spelt}
+use Rattle.protobuf.specs.Spelt.{spelt}
 use Rattle.protobuf.specs.Walk.{Fields, fieldsOf, between}
 use Rattle.protobuf.specs.WalkLaws.{along, between-length}
 use Rattle.schema.specs.declared.Kind.{Kind}
@@ -71,7 +72,7 @@ module _ (mode : Mode) (s : List ℕ) (b : Bytes s) (l : length s < 2 ^ 64) (f :
   read-value n type to h =
       either (eqb type 0) (λ t0. varint-value n type to (readUvarint (drop to s)) refl (simp t0 at h))
       (λ t0. either (eqb type 2) (λ t2. part-value n type to (readLen s to) refl (simp (t0, t2) at h))
-      (λ t2. skip-value n type to (skipField mode s to type) (simp (t0, t2) at h)))
+      (λ t2. skip-value n type to (skipField mode maxGroups s to n type) (simp (t0, t2) at h)))
 
   tag-value : (r : Tag) → step.At f ≡ ofTag mode s r → f .value < 2 ^ 64
   tag-value tag.End h = clash (cc)
@@ -157,7 +158,8 @@ slots-number mode k s b l =
 abbrev Fits : Record → Type 0
 Fits r = Each Small (wordsOf r)
 
-own-words : (mode : Mode) (k : Kind) (base : ℕ) (s : List ℕ) → Bytes s → base + length s < 2 ^ 64 → Each Fits (ownRows mode k base s)
+own-words : (mode : Mode) (k : Kind) (base : ℕ) (s : List ℕ) → Bytes s → base + length s < 2 ^ 64
+    → Each Fits (ownRows mode k base s)
 unfolding ownRows placesWords
 own-words mode k base s b l =
     let g = slots-inside mode k s in
@@ -168,7 +170,8 @@ own-words mode k base s b l =
     (each-append (place-words s m (slotsOf mode k s .first) (g .first))
     (each-append (place-words s m (slotsOf mode k s .second) (g .second))
     (each-append (place-words s m (slotsOf mode k s .third) (g .third))
-    (each-append (place-words s m (slotsOf mode k s .fourth) (g .fourth)) (place-words s m (slotsOf mode k s .fifth) (g .fifth)))))) in
+    (each-append (place-words s m (slotsOf mode k s .fourth) (g .fourth))
+    (place-words s m (slotsOf mode k s .fifth) (g .fifth)))))) in
     either (eqb (ownOf k) 0) (λ t. simp t none-left) (λ t. simp t (r and none-left))
 
 absent-words : Each Small (placeWords place.Absent)
@@ -181,8 +184,10 @@ leaf-words k a e p q =
     record-words (record { kind = k; start = a; end = e; slots = noSlots }) p q no-number
     (each-append absent-words (each-append absent-words (each-append absent-words (each-append absent-words absent-words))))
 
-role-words : (mode : Mode) (base : ℕ) (s : List ℕ) (f : Field) (r : Role) → Bytes s → base + length s < 2 ^ 64 → f .start ≤ f .next → f .next ≤ length s
-    → ((j : Kind) (form : Form) (b : ℕ) (p : List ℕ) → r ≡ Sub j form → Bytes p → b + length p < 2 ^ 64 → Each Fits (rowsOf mode j b p))
+role-words : (mode : Mode) (base : ℕ) (s : List ℕ) (f : Field) (r : Role) → Bytes s → base + length s < 2 ^ 64
+    → f .start ≤ f .next → f .next ≤ length s
+    → ((j : Kind) (form : Form) (b : ℕ) (p : List ℕ) → r ≡ Sub j form → Bytes p → b + length p < 2 ^ 64
+    → Each Fits (rowsOf mode j b p))
     → Each Fits (roleRows (rowsOf mode) base s f r)
 role-words mode base s f Passed b l o w h = none-left
 role-words mode base s f (Number figure) b l o w h = none-left
@@ -199,7 +204,8 @@ role-words mode base s f (Sub k form) b l o w h =
     (take-bytes (f .next - f .start) (drop (f .start) s) (drop-bytes (f .start) s b)) (omega arith)
 
 along-words : (mode : Mode) (k : Kind) (base : ℕ) (s : List ℕ) → Bytes s → base + length s < 2 ^ 64
-    → ((j : Kind) (b : ℕ) (p : List ℕ) → rank j < rank k → Bytes p → b + length p < 2 ^ 64 → Each Fits (rowsOf mode j b p))
+    → ((j : Kind) (b : ℕ) (p : List ℕ) → rank j < rank k → Bytes p → b + length p < 2 ^ 64
+    → Each Fits (rowsOf mode j b p))
     → Each Fits (rowsAlong (rowsOf mode) k base s (fieldsOf mode s))
 along-words mode k base s b l h =
     along mode s (λ (at : ℕ) (w : Fields). Each Fits (rowsAlong (rowsOf mode) k base s w))
@@ -211,7 +217,8 @@ along-words mode k base s b l h =
     rest)
     0
 
-rows-words : (mode : Mode) (k : Kind) (base : ℕ) (s : List ℕ) → Bytes s → base + length s < 2 ^ 64 → Each Fits (rowsOf mode k base s)
+rows-words : (mode : Mode) (k : Kind) (base : ℕ) (s : List ℕ) → Bytes s → base + length s < 2 ^ 64
+    → Each Fits (rowsOf mode k base s)
 rows-words mode =
     by-rank (λ k. (base : ℕ) (s : List ℕ) → Bytes s → base + length s < 2 ^ 64 → Each Fits (rowsOf mode k base s))
     (λ k ih base s b l. subst (Each Fits) (sym (rows-along mode k base s))

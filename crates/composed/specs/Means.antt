@@ -71,7 +71,8 @@ module _ (d1 d2 d3 d4 d5 d6 : List (List ℕ)) where
       (found m e2 (e3 ++ e4) _ _ (entries-in 2 m d2) (found m e3 e4 _ _ (entries-in 3 m d3) (entries-in 4 m d4))))
       (found m e5 e6 _ _ (entries-in 5 m d5) (entries-in 6 m d6))
 
-message-body : (mode : Mode) (m : RawMessage) → Sized (encodeMessage m) → Each Utf8 (m .«topic_ids») → IsMessage mode (encodeMessage m) (renewed m)
+pub message-body : (mode : Mode) (m : RawMessage) → Sized (encodeMessage m) → Each Utf8 (m .«topic_ids»)
+    → IsMessage mode (encodeMessage m) (renewed m)
 unfolding encodeMessage encodeFields mkMessage
 message-body mode m k u =
     let f = m .from in let d = m .«data» in let q = m .seqno in let ts = m .«topic_ids» in let s = m .signature in let y = m .key in
@@ -80,12 +81,12 @@ message-body mode m k u =
     let l = length-append (x1 ++ (x2 ++ (x3 ++ x4))) (x5 ++ x6) in
     let l1 = length-append x1 (x2 ++ (x3 ++ x4)) in let l2 = length-append x2 (x3 ++ x4) in let l3 = length-append x3 x4 in
     let l4 = length-append x5 x6 in
-    let w = body-append mode
-    (body-append mode (bytes-body mode 1 (omega arith) (omega arith) (opt f) (field-sized 1 f (omega arith)))
-    (body-append mode (bytes-body mode 2 (omega arith) (omega arith) (opt d) (field-sized 2 d (omega arith)))
-    (body-append mode (bytes-body mode 3 (omega arith) (omega arith) (opt q) (field-sized 3 q (omega arith)))
+    let w = body-append
+    (body-append (bytes-body mode 1 (omega arith) (omega arith) (opt f) (field-sized 1 f (omega arith)))
+    (body-append (bytes-body mode 2 (omega arith) (omega arith) (opt d) (field-sized 2 d (omega arith)))
+    (body-append (bytes-body mode 3 (omega arith) (omega arith) (opt q) (field-sized 3 q (omega arith)))
     (bytes-body mode 4 (omega arith) (omega arith) ts (fields-sized 4 ts (omega arith))))))
-    (body-append mode (bytes-body mode 5 (omega arith) (omega arith) (opt s) (field-sized 5 s (omega arith)))
+    (body-append (bytes-body mode 5 (omega arith) (omega arith) (opt s) (field-sized 5 s (omega arith)))
     (bytes-body mode 6 (omega arith) (omega arith) (opt y) (field-sized 6 y (omega arith)))) in
     let es = sixEntries (opt f) (opt d) (opt q) ts (opt s) (opt y) in
     let i = in-six (opt f) (opt d) (opt q) ts (opt s) (opt y) in
@@ -105,7 +106,8 @@ message-body mode m k u =
     (ap last (i 6) ∙ last-opt y))
     (is-message w (subst (Each Utf8) (sym i4) u))
 
-pub message-means : (mode : Mode) (m : RawMessage) → m .raw ≡ encodeMessage m → Sized (m .raw) → Each Utf8 (m .«topic_ids») → IsMessage mode (m .raw) m
+pub message-means : (mode : Mode) (m : RawMessage) → m .raw ≡ encodeMessage m → Sized (m .raw)
+    → Each Utf8 (m .«topic_ids») → IsMessage mode (m .raw) m
 message-means mode m e k u =
     subst (λ (r : List ℕ). IsMessage mode r (record {
       raw = r;
@@ -122,13 +124,15 @@ each-both none-left none-left = none-left
 each-both (p and ps) (q and qs) = (p, q) and each-both ps qs
 
 -- ---- a control
-sub-opts-of : (mode : Mode) (o : SubOpts) → Each Utf8 (opt (o .«topic_id»)) → Sized (encodeSubOpts o) → IsSubOpts mode (encodeSubOpts o) o
+sub-opts-of : (mode : Mode) (o : SubOpts) → Each Utf8 (opt (o .«topic_id»)) → Sized (encodeSubOpts o)
+    → IsSubOpts mode (encodeSubOpts o) o
 unfolding encodeSubOpts
 sub-opts-of mode o u k =
     let l = length-append (optional (λ b. varintField 1 (flag b)) (o .subscribe)) (optional (bytesField 2) (o .«topic_id»)) in
     sub-opts-means mode o (field-sized 2 (o .«topic_id») (omega arith)) u
 
-graft-of : (mode : Mode) (g : ControlGraft) → Each Utf8 (opt (g .«topic_id»)) → Sized (encodeGraft g) → IsGraft mode (encodeGraft g) g
+graft-of : (mode : Mode) (g : ControlGraft) → Each Utf8 (opt (g .«topic_id»)) → Sized (encodeGraft g)
+    → IsGraft mode (encodeGraft g) g
 unfolding encodeGraft
 graft-of mode g u k = graft-means mode g (field-sized 1 (g .«topic_id») k) u
 
@@ -136,7 +140,8 @@ peer-of : (mode : Mode) (p : PeerInfo) → Sized (encodePeerInfo p) → IsPeerIn
 unfolding encodePeerInfo
 peer-of mode p k =
     let l = length-append (optional (bytesField 1) (p .«peer_id»)) (optional (bytesField 2) (p .«signed_peer_record»)) in
-    peer-info-means mode p (field-sized 1 (p .«peer_id») (omega arith)) (field-sized 2 (p .«signed_peer_record») (omega arith))
+    peer-info-means mode p (field-sized 1 (p .«peer_id») (omega arith))
+    (field-sized 2 (p .«signed_peer_record») (omega arith))
 
 every : {A : Type 0} (xs : List A) → Each (λ x. x ≡ x) xs
 every [] = none-left
@@ -150,7 +155,8 @@ prune-of mode p q k =
     let x3 = optional (varintField 3) (p .backoff) in
     let l = length-append x1 (x2 ++ x3) in let m = length-append x2 x3 in
     prune-means mode p (field-sized 1 (p .«topic_id») (omega arith)) (q .topic)
-    (entries-of (IsPeerInfo mode) encodePeerInfo 2 (λ i e z. peer-of mode i z) (every (p .peers)) (omega arith)) (q .backoff)
+    (entries-of (IsPeerInfo mode) encodePeerInfo 2 (λ i e z. peer-of mode i z) (every (p .peers)) (omega arith))
+    (q .backoff)
 
 control-of : (d : Dialect) (c : ControlMessage) → PlainControl c → Spoken c → Sized (encodeControl c) → Sound d c
 unfolding encodeControl
@@ -167,7 +173,8 @@ control-of d c p q k =
       iwants = no-entries (IsIWant (d .mode)) encodeIWant (c .iwant) (q .quiet .iwant);
       grafts = entries-of (IsGraft (d .mode)) encodeGraft 3 (graft-of (d .mode)) (p .grafts) (omega arith);
       prunes = entries-of (IsPrune (d .mode)) encodePrune 4 (prune-of (d .mode)) (p .prunes) (omega arith);
-      idontwants = subst (IDontWants (d .mode) (d .edition)) (sym (q .quiet .idontwant)) (no-idontwants (d .mode) (d .edition));
+      idontwants = subst (IDontWants (d .mode) (d .edition)) (sym (q .quiet .idontwant))
+          (no-idontwants (d .mode) (d .edition));
     }
 
 controls-of : (d : Dialect) (o : Option ControlMessage) → Each PlainControl (opt o) → Each Spoken (opt o)
@@ -190,7 +197,8 @@ plain-means d x p q k =
     let l = rpc-length x in
     rpc-sound d x
     (entries-of (IsSubOpts (d .mode)) encodeSubOpts 1 (sub-opts-of (d .mode)) (p .subscriptions) (omega arith))
-    (entries-of (IsMessage (d .mode)) (λ m. m .raw) 2 (λ m i z. message-means (d .mode) m (i .0) z (i .1)) (each-both (q .raws) (p .publish)) (omega arith))
+    (entries-of (IsMessage (d .mode)) (λ m. m .raw) 2 (λ m i z. message-means (d .mode) m (i .0) z (i .1))
+    (each-both (q .raws) (p .publish)) (omega arith))
     (controls-of d (x .control) (p .control) (q .control) (omega arith))
     k
 

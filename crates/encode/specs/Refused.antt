@@ -37,12 +37,14 @@ sign-by-place : (mode : Mode) (s out : List ℕ) (m : MessageAt) → (messageTol
 sign-by-place mode s out (Count n) h = refl
 sign-by-place mode s out (At a e) h = refused-bytes (signOf mode (between s a e)) out h
 
-sign-by : (mode : Mode) (s : List ℕ) (i : ℕ) (out : List ℕ) (c : Checked) → (messageTold (signChecked mode s i out c) .number ≡ 0 → ⊥)
+sign-by : (mode : Mode) (s : List ℕ) (i : ℕ) (out : List ℕ) (c : Checked)
+    → (messageTold (signChecked mode s i out c) .number ≡ 0 → ⊥)
     → signedChecked mode s i out c ≡ out
 sign-by mode s i out (Wrong why) h = refl
 sign-by mode s i out Fine h = sign-by-place mode s out (messageAt mode s i) h
 
-pub refused-sign : (d : Dialect) (s : List ℕ) (i : ℕ) (out : List ℕ) → (messageTold (signAnswer d s i out) .number ≡ 0 → ⊥)
+pub refused-sign : (d : Dialect) (s : List ℕ) (i : ℕ) (out : List ℕ)
+    → (messageTold (signAnswer d s i out) .number ≡ 0 → ⊥)
     → signLeft d s i out ≡ out
 unfolding signAnswer signLeft
 refused-sign d s i out h = sign-by (d .mode) s i out (acceptOf d s) h

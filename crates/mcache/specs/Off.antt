@@ -18,13 +18,17 @@ use Rattle.rows.specs.Store.{idAt, idsIn, inUse, allUpTo}
 use Rattle.protobuf.specs.declared.Checked.{Checked}
 use Rattle.protobuf.specs.declared.Checked.the-variants as checked
 use Rattle.protobuf.specs.Walk.{between}
+use Rattle.protobuf.specs.declared.WireError.{WireError}
+use Rattle.schema.specs.declared.Kind.the-variants as kind
+use Rattle.schema.specs.declared.Counted.the-variants as count
+use Rattle.schema.specs.Count.{counted}
 use Rattle.schema.specs.Accept.{acceptOf}
 use Rattle.ids.specs.declared.MessageAt.{MessageAt}
 use Rattle.ids.specs.declared.MessageAt.the-variants as at
 use Rattle.ids.specs.Ids.{messageAt}
 use Rattle.admission.specs.Flags.{knownFlags, allowsUnsigned}
 use Rattle.admission.specs.Admission.{isSigned}
-use Rattle.admission.specs.AdmissionLaws.{gives-signed}
+use Rattle.admission.specs.AdmissionLaws.{gives-refused, gives-signed}
 use Rattle.admission.specs.FlagLaws.{admissionWas, keptWas, admission-off, kept-off, kept-on}
 use Rattle.mcache.specs.declared.MessageCache.{MessageCache}
 use Rattle.mcache.specs.declared.Lent.the-variants as lent
@@ -169,4 +173,14 @@ turned-off c st i off h n f =
     let p = placeOf (ringOf c) i in
     let s = gives-signed (c .flags) (messageIn (c .len) st p) (idAt messageIdSize (c .«id_len») (c .ids) p)
     (row-gives c st (fine-tests c st f) i h) off in
+    clash (cc)
+
+-- ---- the mode that is set from outside: a cached message that is not read in it is 42
+pub unread : (c : MessageCache) (st : List ℕ) (i : ℕ) (why : WireError) → i < c .count
+    → counted (modeOf (c .flags)) kind.RawMessage (messageIn (c .len) st (placeOf (ringOf c) i)) ≡ count.Refused why
+    → lentOf c st ≡ lent.Fine → ⊥
+unread c st i why h n f =
+    let p = placeOf (ringOf c) i in
+    let g = row-gives c st (fine-tests c st f) i h in
+    let z = gives-refused (c .flags) (messageIn (c .len) st p) (idAt messageIdSize (c .«id_len») (c .ids) p) why n in
     clash (cc)

@@ -368,18 +368,20 @@ module _ (n : Node) (ss cs : List ℕ) (ed : Edition) (body : List ℕ) (i : ℕ
   unfolding planned
   plan-faulty why e = rw (← e)
 
-  pub plan-refused : (why : Placed) → lent.Fine ≡ lentOf n ss cs → checked.Refused why ≡ acceptOf (spoken (modeOf (n .cache .flags)) ed) body → planned n ss cs ed body i word at ≡ no (admit.Refused why)
+  pub plan-refused : {mode : Mode} (why : Placed) → lent.Fine ≡ lentOf n ss cs → mode ≡ modeOf (n .cache .flags) → checked.Refused why ≡ acceptOf (spoken mode ed) body
+      → planned n ss cs ed body i word at ≡ no (admit.Refused why)
   unfolding planned
-  plan-refused why e f = rw (← e, ← f)
+  plan-refused why e m f = rw (← e, ← m, ← f)
 
-  pub plan-missing : (k : ℕ) → lent.Fine ≡ lentOf n ss cs → checked.Fine ≡ acceptOf (spoken (modeOf (n .cache .flags)) ed) body → found.Count k ≡ messageAt (modeOf (n .cache .flags)) body i → planned n ss cs ed body i word at ≡ no (admit.NoMessage k)
+  pub plan-missing : {mode : Mode} (k : ℕ) → lent.Fine ≡ lentOf n ss cs → mode ≡ modeOf (n .cache .flags) → checked.Fine ≡ acceptOf (spoken mode ed) body → found.Count k ≡ messageAt mode body i
+      → planned n ss cs ed body i word at ≡ no (admit.NoMessage k)
   unfolding planned
-  plan-missing k e f g = rw (← e, ← f, ← g)
+  plan-missing k e m f g = rw (← e, ← m, ← f, ← m, ← g)
 
-  pub plan-at : (a b : ℕ) → lent.Fine ≡ lentOf n ss cs → checked.Fine ≡ acceptOf (spoken (modeOf (n .cache .flags)) ed) body → found.At a b ≡ messageAt (modeOf (n .cache .flags)) body i
+  pub plan-at : {mode : Mode} (a b : ℕ) → lent.Fine ≡ lentOf n ss cs → mode ≡ modeOf (n .cache .flags) → checked.Fine ≡ acceptOf (spoken mode ed) body → found.At a b ≡ messageAt mode body i
       → planned n ss cs ed body i word at ≡ planFit n at (between body a b) (admissionOf (n .cache .flags) (between body a b) word)
   unfolding planned
-  plan-at a b e f g = rw (← e, ← f, ← g)
+  plan-at a b e m f g = rw (← e, ← m, ← f, ← m, ← g)
 
 -- ---- heartbeat
 module _ (n : Node) (ss cs : List ℕ) (at : ℕ) where

@@ -155,7 +155,7 @@ tail-is path = take-all (length path - 1) (drop 1 path) (omega (arith, length-dr
 pub tail-size : (path : List ℕ) → length (take (length path - 1) (drop 1 path)) ≡ length path - 1
 tail-size path = ap length (tail-is path) ∙ length-drop 1 path
 
-module _ (mode : Mode) (s : List ℕ) (b z : ℕ) (path : List ℕ) (f : Field) (w : FieldWithin (between s b z) f) (c : (b ≤ z) × (z ≤ length s)) where
+module _ (s : List ℕ) (b z : ℕ) (path : List ℕ) (f : Field) (w : FieldWithin (between s b z) f) (c : (b ≤ z) × (z ≤ length s)) where
   inner-size : length (between s b z) ≡ z - b
   inner-size = between-length s b z (c .1)
 
@@ -164,8 +164,8 @@ module _ (mode : Mode) (s : List ℕ) (b z : ℕ) (path : List ℕ) (f : Field) 
   field-inside = let o = w .order in let i = w .fits in let l = inner-size in (omega arith, omega arith)
 
   -- and its parts are those of the bytes there
-  pub field-there : f .«wire_type» ≡ 2 → f .field ≡ getD path 0 0 → fieldParts mode path (between s b z) f ≡ atPath mode (take (length path - 1) (drop 1 path)) (between s (b + f .start) (b + f .next))
-  field-there p q =
+  pub field-there : (mode : Mode) → f .«wire_type» ≡ 2 → f .field ≡ getD path 0 0 → fieldParts mode path (between s b z) f ≡ atPath mode (take (length path - 1) (drop 1 path)) (between s (b + f .start) (b + f .next))
+  field-there mode p q =
       field-yes mode path (between s b z) f p q
       ∙ ap₂ (atPath mode) (sym (tail-is path)) (between-between s b z (f .start) (f .next) (w .order) (w .fits))
 

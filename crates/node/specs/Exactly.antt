@@ -181,7 +181,8 @@ module _ (n : Node) (ss cs : List ℕ) where
     fit-below p (admission.Unfit why) = omega (arith, unfit-range why .1)
     fit-below p (admission.Fit a e b f) =
         either (ltb at (n .clock)) (λ t. rw t (omega arith))
-        (λ t. rw t (either (heldAt n ss at (formOf (modeOf (n .cache .flags)) p (idBytes p a e b f))) (λ u. rw u (omega arith)) (λ u. rw u (omega arith))))
+        (λ t. rw t (either (heldAt n ss at (formOf (modeOf (n .cache .flags)) p (idBytes p a e b f)))
+        (λ u. rw u (omega arith)) (λ u. rw u (omega arith))))
 
     at-below : (r : MessageAt) → admitTold (admitAnswer n ss at (planAt n at word body r)) .number < bad-setting
     at-below (found.Count k) = omega arith
@@ -280,7 +281,8 @@ module _ (n : Node) (ss cs : List ℕ) where
 
     pub ask-faults : (k : ℕ) → bad-setting ≤ k
         → (askTold (askAnswer n ss cs ed body out) .number ≡ k) ↔ (lentTold (lentOf n ss cs) .number ≡ k)
-    ask-faults k h = as-lent (lentOf n ss cs) _ k ask-faulty (λ e. ask-on (acceptOf (spoken (modeOf (n .cache .flags)) ed) body) e refl) h
+    ask-faults k h = as-lent (lentOf n ss cs) _ k ask-faulty
+        (λ e. ask-on (acceptOf (spoken (modeOf (n .cache .flags)) ed) body) e refl) h
 
   module _ (ed : Edition) (body second out : List ℕ) where
     serve-faulty : (why : Fault) → lentOf n ss cs ≡ lent.Faulty why
@@ -293,18 +295,21 @@ module _ (n : Node) (ss cs : List ℕ) where
     reply-below (short needed) = omega arith
 
     serve-on : (r q : Checked) → lentOf n ss cs ≡ lent.Fine → acceptOf (spoken (modeOf (n .cache .flags)) ed) body ≡ r
-        → acceptOf (spoken (modeOf (n .cache .flags)) V12) second ≡ q → serveTold (serveAnswer n ss cs ed body second out) .number < bad-setting
+        → acceptOf (spoken (modeOf (n .cache .flags)) V12) second ≡ q
+        → serveTold (serveAnswer n ss cs ed body second out) .number < bad-setting
     unfolding serveAnswer
     serve-on (checked.Refused why) q e a b = rw (e, a) (omega (arith, wire-range (why .why) .1))
     serve-on checked.Fine (checked.Refused why) e a b = rw (e, a, b) (omega (arith, wire-range (why .why) .1))
     serve-on checked.Fine checked.Fine e a b =
-        rw (e, a, b) (reply-below (replyFor (roomOf out) (cachedOf (n .cache) cs (remaining (modeOf (n .cache .flags)) body second))))
+        rw (e, a, b) (reply-below (replyFor (roomOf out)
+        (cachedOf (n .cache) cs (remaining (modeOf (n .cache .flags)) body second))))
 
     pub serve-faults : (k : ℕ) → bad-setting ≤ k
         → (serveTold (serveAnswer n ss cs ed body second out) .number ≡ k) ↔ (lentTold (lentOf n ss cs) .number ≡ k)
     serve-faults k h =
         as-lent (lentOf n ss cs) _ k serve-faulty
-        (λ e. serve-on (acceptOf (spoken (modeOf (n .cache .flags)) ed) body) (acceptOf (spoken (modeOf (n .cache .flags)) V12) second) e refl refl) h
+        (λ e. serve-on (acceptOf (spoken (modeOf (n .cache .flags)) ed) body)
+        (acceptOf (spoken (modeOf (n .cache .flags)) V12) second) e refl refl) h
 
 -- ---- a heartbeat, whole: 40, 41, 42; 31 where now is below the clock, with the clock; else it is done
 pub data BeatTells (n : Node) (ss cs : List ℕ) (at : ℕ) : Told → Type 0 where
@@ -345,15 +350,20 @@ pub record Passes (n : Node) (ss cs : List ℕ) (ed : Edition) (body second : Li
 pub data ServeTells (n : Node) (ss cs : List ℕ) (ed : Edition) (body second out : List ℕ) : Told → Type 0 where
   node-faulty : {why : Fault} → lentOf n ss cs ≡ lent.Faulty why
       → ServeTells n ss cs ed body second out (faultTold why)
-  body-refused : {why : Placed} → lentOf n ss cs ≡ lent.Fine → acceptOf (spoken (modeOf (n .cache .flags)) ed) body ≡ checked.Refused why
+  body-refused : {why : Placed} → lentOf n ss cs ≡ lent.Fine
+      → acceptOf (spoken (modeOf (n .cache .flags)) ed) body ≡ checked.Refused why
       → ServeTells n ss cs ed body second out (refusalTold why)
-  second-refused : {why : Placed} → lentOf n ss cs ≡ lent.Fine → acceptOf (spoken (modeOf (n .cache .flags)) ed) body ≡ checked.Fine
-      → acceptOf (spoken (modeOf (n .cache .flags)) V12) second ≡ checked.Refused why → ServeTells n ss cs ed body second out (refusalTold why)
+  second-refused : {why : Placed} → lentOf n ss cs ≡ lent.Fine
+      → acceptOf (spoken (modeOf (n .cache .flags)) ed) body ≡ checked.Fine
+      → acceptOf (spoken (modeOf (n .cache .flags)) V12) second ≡ checked.Refused why
+      → ServeTells n ss cs ed body second out (refusalTold why)
   first-short : Passes n ss cs ed body second → {m : List ℕ} {ms : List (List ℕ)}
-      → having (gatewayIn n ss cs) (remaining (modeOf (n .cache .flags)) body second) ≡ m ∷ ms → replyRoom (length out) < length (bytesField 2 m)
+      → having (gatewayIn n ss cs) (remaining (modeOf (n .cache .flags)) body second) ≡ m ∷ ms
+      → replyRoom (length out) < length (bytesField 2 m)
       → ServeTells n ss cs ed body second out (told short-room (length (bytesField 2 m) ∷ []))
   replies : Passes n ss cs ed body second → {ms : List (List ℕ)}
-      → having (gatewayIn n ss cs) (remaining (modeOf (n .cache .flags)) body second) ≡ ms → FirstFits (replyRoom (length out)) ms
+      → having (gatewayIn n ss cs) (remaining (modeOf (n .cache .flags)) body second) ≡ ms
+      → FirstFits (replyRoom (length out)) ms
       → ServeTells n ss cs ed body second out
       (done
       (length (repeated (bytesField 2) (sentIn (replyRoom (length out)) ms))
@@ -382,7 +392,8 @@ module _ (n : Node) (ss cs : List ℕ) (ed : Edition) (body second out : List �
   Tells = ServeTells n ss cs ed body second out
 
   by-messages : Passes n ss cs ed body second → (ms : List (List ℕ))
-      → having (gatewayIn n ss cs) (remaining (modeOf (n .cache .flags)) body second) ≡ ms → Tells (serveTold (replyTo ms out))
+      → having (gatewayIn n ss cs) (remaining (modeOf (n .cache .flags)) body second) ≡ ms
+      → Tells (serveTold (replyTo ms out))
   unfolding roomOf fitting
   by-messages p [] h = replies p h tt
   by-messages p (m ∷ ms) h =
@@ -411,12 +422,21 @@ module _ (n : Node) (ss cs : List ℕ) (ed : Edition) (body second out : List �
 
   -- where nothing is refused before, the reply
   passes-reply : Passes n ss cs ed body second
-      → serveAnswer n ss cs ed body second out ≡ replyTo (having (gatewayIn n ss cs) (remaining (modeOf (n .cache .flags)) body second)) out
+      → serveAnswer n ss cs ed body second out ≡ replyTo
+      (having (gatewayIn n ss cs) (remaining (modeOf (n .cache .flags)) body second)) out
   unfolding serveAnswer
-  passes-reply p = rw (p .fine, p .asks, p .declines, cached-gateway n ss cs (remaining (modeOf (n .cache .flags)) body second))
+  passes-reply p = rw (
+    p .fine,
+    p .asks,
+    p .declines,
+    cached-gateway n ss cs
+        (remaining (modeOf (n .cache .flags)) body second),
+  )
 
-  serve-tells : (l : Lent) (r q : Checked) → lentOf n ss cs ≡ l → acceptOf (spoken (modeOf (n .cache .flags)) ed) body ≡ r
-      → acceptOf (spoken (modeOf (n .cache .flags)) V12) second ≡ q → Tells (serveTold (serveAnswer n ss cs ed body second out))
+  serve-tells : (l : Lent) (r q : Checked) → lentOf n ss cs ≡ l
+      → acceptOf (spoken (modeOf (n .cache .flags)) ed) body ≡ r
+      → acceptOf (spoken (modeOf (n .cache .flags)) V12) second ≡ q
+      → Tells (serveTold (serveAnswer n ss cs ed body second out))
   unfolding serveAnswer
   serve-tells (lent.Faulty why) r q e a b = rw e (node-faulty e)
   serve-tells lent.Fine (checked.Refused why) q e a b = rw (e, a) (body-refused e a)
@@ -440,7 +460,8 @@ module _ (n : Node) (ss cs : List ℕ) (ed : Edition) (body second out : List �
       → (serveTold (serveAnswer n ss cs ed body second out) ≡ a) ↔ ServeTells n ss cs ed body second out a
   serve-tells-exactly a = (
     λ e. subst (ServeTells n ss cs ed body second out) e
-        (serve-tells (lentOf n ss cs) (acceptOf (spoken (modeOf (n .cache .flags)) ed) body) (acceptOf (spoken (modeOf (n .cache .flags)) V12) second) refl refl refl),
+        (serve-tells (lentOf n ss cs) (acceptOf (spoken (modeOf (n .cache .flags)) ed) body)
+        (acceptOf (spoken (modeOf (n .cache .flags)) V12) second) refl refl refl),
     λ t. serve-only t,
   )
 

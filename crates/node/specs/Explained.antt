@@ -51,7 +51,8 @@ module _ (n : Node) (ss cs id topic : List ℕ) (windows : ℕ) (fine : lentOf n
   unfolding explainAnswer
   explain-says h = rw (fine, le-ltb 1024 (length topic) h, offer-gateway)
 
-  answers : Answers (modeOf (n .cache .flags)) id topic windows (gatewayIn n ss cs .cache) (λ o. offerIn (n .cache) cs id topic windows ≡ o)
+  answers : Answers (modeOf (gatewayIn n ss cs .flags)) id topic windows (gatewayIn n ss cs .cache)
+      (λ o. offerIn (n .cache) cs id topic windows ≡ o)
   unfolding gatewayIn
   answers = answers-exactly id topic windows (n .cache) cs (fine-tests n ss cs fine .messages)
 
@@ -80,7 +81,7 @@ module _ (n : Node) (ss cs id topic : List ℕ) (windows : ℕ) (fine : lentOf n
     pub explain-exactly : Explanation id topic windows (gatewayIn n ss cs) (r .answer)
     explain-exactly =
         record {
-          exactly = answers-as (modeOf (n .cache .flags)) why-same answers;
+          exactly = answers-as (modeOf (gatewayIn n ss cs .flags)) why-same answers;
           recent = λ age z. older age z .0;
           all-windows = λ most age z. omega (arith, most, older age z .0, older age z .1);
         }

@@ -92,7 +92,8 @@ forms-differ false false id h = clash (cc)
 
 -- ---- one of m and u has a signature and the other has none: after an admit of u, at its reading or a later one, m is new
 -- wherever it was
-pub other-mark-new : (at later : ℕ) (u m id : List ℕ) (g : Gateway) → at ≤ later → not (isSigned (modeOf (g .flags)) u) ≡ isSigned (modeOf (g .flags)) m
+pub other-mark-new : (at later : ℕ) (u m id : List ℕ) (g : Gateway) → at ≤ later
+    → not (isSigned (modeOf (g .flags)) u) ≡ isSigned (modeOf (g .flags)) m
     → isNew later m id g ≡ true → isNew later m id (afterAdmit at u id g) ≡ true
 unfolding isNew afterAdmit
 other-mark-new at later u m id g l n h =
@@ -104,6 +105,10 @@ other-mark-new at later u m id g l n h =
     (forms-differ (isSigned (modeOf (g .flags)) u) (isSigned (modeOf (g .flags)) m) id n) b)
 
 -- of the calls
+gateway-mode : (n : Node) (ss cs : List ℕ) → modeOf (gatewayIn n ss cs .flags) ≡ modeOf (n .cache .flags)
+unfolding gatewayIn
+gateway-mode n ss cs = refl
+
 module _ (n : Node) (ss cs : List ℕ) (ed : Edition) (body : List ℕ) (i : ℕ) (word : Bool) (at : ℕ) (u id : List ℕ)
     (typed : Typed n) (plan : planned n ss cs ed body i word at ≡ taken u id) where
   abbrev nextNode : Node
@@ -129,7 +134,8 @@ module _ (n : Node) (ss cs : List ℕ) (ed : Edition) (body : List ℕ) (i : ℕ
       let l : at ≤ later = omega (arith, next-clock, t .forward) in
       let g = admit-gateway n ss cs ed body i word at u id typed plan in
       let a : isNew later m id (gatewayIn nextNode nextSeen nextCache) ≡ true =
-      ap (isNew later m id) g ∙ other-mark-new at later u m id (gatewayIn n ss cs) l differ new in
+      ap (isNew later m id) g
+      ∙ other-mark-new at later u m id (gatewayIn n ss cs) l (rw (gateway-mode n ss cs) differ) new in
       admit-says nextNode nextSeen nextCache ed2 body2 j word2 later m id (admit-typed n ss cs typed ed body i word at)
       plan2 ∙ rw a
 

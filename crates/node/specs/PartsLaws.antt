@@ -160,7 +160,8 @@ path-all mode (n ∷ ns) s h = refl
 pub path-field : (mode : Mode) (path s : List ℕ) (at : ℕ) (f : Field) → step.At f ≡ readField mode s at
     → restAt mode path s at ≡ fieldParts mode path s f ++ restAt mode path s (f .next)
 path-field mode path s at f h =
-    ap (λ (w : Fields). inEach (atPath mode (drop 1 path)) (valuesAlong (getD path 0 0) s w)) (walk-on mode s at (step.At f) h)
+    ap (λ (w : Fields). inEach (atPath mode (drop 1 path)) (valuesAlong (getD path 0 0) s w))
+    (walk-on mode s at (step.At f) h)
     ∙ either (isBytes (getD path 0 0) f) (λ t. simp t) (λ t. simp t)
 
 pub path-end : (mode : Mode) (path s : List ℕ) (at : ℕ) → step.End ≡ readField mode s at → restAt mode path s at ≡ []
@@ -169,7 +170,8 @@ path-end mode path s at h = ap (λ (w : Fields). inEach (atPath mode (drop 1 pat
 
 pub path-refused : (mode : Mode) (path s : List ℕ) (at : ℕ) (why : WireError) → step.Refused why ≡ readField mode s at
     → restAt mode path s at ≡ []
-path-refused mode path s at why h = ap (λ (w : Fields). inEach (atPath mode (drop 1 path)) (valuesAlong (getD path 0 0) s w))
+path-refused mode path s at why h = ap (λ (w : Fields). inEach (atPath mode (drop 1 path))
+    (valuesAlong (getD path 0 0) s w))
     (walk-on mode s at (step.Refused why) h)
 
 pub path-done : (mode : Mode) (path s : List ℕ) (at : ℕ) → length s ≤ at → restAt mode path s at ≡ []
@@ -341,7 +343,8 @@ along-counted : (mode : Mode) (k : Kind) (m : ℕ) (s : List ℕ) (g : List ℕ 
 along-counted mode k m s g h end r e = omega arith
 along-counted mode k m s g h (refused why) r e = clash (cc)
 along-counted mode k m s g h (f then w) r e =
-    let t = then-fits (roleCount (counted mode) s f (roleOf k (f .field) (f .«wire_type»))) (countAlong (counted mode) k s w) r e in
+    let t = then-fits (roleCount (counted mode) s f (roleOf k (f .field) (f .«wire_type»)))
+    (countAlong (counted mode) k s w) r e in
     let i = along-counted mode k m s g h w (t .1) (t .3) in
     let z = t .4 in
     either (isBytes m f)
@@ -360,11 +363,13 @@ pub path-sub : (mode : Mode) (k j : Kind) (form : Form) (m : ℕ) (ns : List ℕ
 unfolding atPath
 path-sub mode k j form m ns q h s r e =
     along-counted mode k m s (atPath mode ns)
-    (λ f x c. let t = plus-fits (ownOf j) x (counted mode j (valueIn s f)) (sym (ap (roleCount (counted mode) s f) q) ∙ c) in
+    (λ f x c. let t = plus-fits (ownOf j) x (counted mode j (valueIn s f)) (sym (ap (roleCount (counted mode) s f) q)
+    ∙ c) in
     let y = h (valueIn s f) (t .0) (t .1) in let z = t .2 in omega arith)
     (fieldsOf mode s) r (sym (count-along mode k s) ∙ e)
 
-pub path-id : (mode : Mode) (k : Kind) (m : ℕ) → roleOf k m 2 ≡ MessageId → (s : List ℕ) (r : ℕ) → counted mode k s ≡ Records r
+pub path-id : (mode : Mode) (k : Kind) (m : ℕ) → roleOf k m 2 ≡ MessageId → (s : List ℕ) (r : ℕ)
+    → counted mode k s ≡ Records r
     → length (atPath mode (m ∷ []) s) ≤ r
 unfolding atPath
 path-id mode k m q s r e =
@@ -379,33 +384,38 @@ pub ihave-counted : (d : Dialect) (s : List ℕ) (r : ℕ) → counted (d .mode)
 unfolding roleOf
 ihave-counted d =
     path-sub (d .mode) (kind.Rpc (d .edition)) (kind.ControlMessage (d .edition)) Merged 3 (1 ∷ 2 ∷ []) refl
-    (path-sub (d .mode) (kind.ControlMessage (d .edition)) kind.ControlIHave Anew 1 (2 ∷ []) refl (path-id (d .mode) kind.ControlIHave 2 refl))
+    (path-sub (d .mode) (kind.ControlMessage (d .edition)) kind.ControlIHave Anew 1 (2 ∷ []) refl
+    (path-id (d .mode) kind.ControlIHave 2 refl))
 
 pub iwant-counted : (d : Dialect) (s : List ℕ) (r : ℕ) → counted (d .mode) (kind.Rpc (d .edition)) s ≡ Records r
     → length (atPath (d .mode) (3 ∷ 2 ∷ 1 ∷ []) s) ≤ r
 unfolding roleOf
 iwant-counted d =
     path-sub (d .mode) (kind.Rpc (d .edition)) (kind.ControlMessage (d .edition)) Merged 3 (2 ∷ 1 ∷ []) refl
-    (path-sub (d .mode) (kind.ControlMessage (d .edition)) kind.ControlIWant Anew 2 (1 ∷ []) refl (path-id (d .mode) kind.ControlIWant 1 refl))
+    (path-sub (d .mode) (kind.ControlMessage (d .edition)) kind.ControlIWant Anew 2 (1 ∷ []) refl
+    (path-id (d .mode) kind.ControlIWant 1 refl))
 
 pub path-counted : (d : Dialect) (s : List ℕ) (r : ℕ) → counted (d .mode) (kind.Rpc (d .edition)) s ≡ Records r
     → (length (atPath (d .mode) (3 ∷ 1 ∷ 2 ∷ []) s) ≤ r) × (length (atPath (d .mode) (3 ∷ 2 ∷ 1 ∷ []) s) ≤ r)
 path-counted d s r e = (ihave-counted d s r e, iwant-counted d s r e)
 
-pub path-accepted : (d : Dialect) (s : List ℕ) → acceptOf d s ≡ Fine → (length (atPath (d .mode) (3 ∷ 1 ∷ 2 ∷ []) s) ≤ 512)
+pub path-accepted : (d : Dialect) (s : List ℕ) → acceptOf d s ≡ Fine
+    → (length (atPath (d .mode) (3 ∷ 1 ∷ 2 ∷ []) s) ≤ 512)
     × (length (atPath (d .mode) (3 ∷ 2 ∷ 1 ∷ []) s) ≤ 512)
 path-accepted d s h = let t = accept-records d s h in let p = path-counted d s (t .0) (t .1) in let m = t .2 in
     (omega arith, omega arith)
 
 -- and of IDONTWANTs, which only 1.2 has
-pub idontwant-counted : (mode : Mode) (s : List ℕ) (r : ℕ) → counted mode (kind.Rpc (spoken mode V12)) s ≡ Records r
+pub idontwant-counted : (mode : Mode) (s : List ℕ) (r : ℕ) → counted mode (kind.Rpc V12) s ≡ Records r
     → length (atPath mode (3 ∷ 5 ∷ 1 ∷ []) s) ≤ r
 unfolding roleOf
 idontwant-counted mode =
-    let d = spoken mode V12 in
-    path-sub mode (kind.Rpc d) (kind.ControlMessage d) Merged 3 (5 ∷ 1 ∷ []) refl
-    (path-sub mode (kind.ControlMessage d) kind.ControlIDontWant Anew 5 (1 ∷ []) refl (path-id mode kind.ControlIDontWant 1 refl))
+    path-sub mode (kind.Rpc V12) (kind.ControlMessage V12) Merged 3 (5 ∷ 1 ∷ []) refl
+    (path-sub mode (kind.ControlMessage V12) kind.ControlIDontWant Anew 5 (1 ∷ []) refl
+    (path-id mode kind.ControlIDontWant 1 refl))
 
-pub idontwant-accepted : (mode : Mode) (s : List ℕ) → acceptOf (spoken mode V12) s ≡ Fine → length (atPath mode (3 ∷ 5 ∷ 1 ∷ []) s) ≤ 512
+pub idontwant-accepted : (mode : Mode) (s : List ℕ) → acceptOf (spoken mode V12) s ≡ Fine
+    → length (atPath mode (3 ∷ 5 ∷ 1 ∷ []) s) ≤ 512
 idontwant-accepted mode s h =
-    let t = accept-records (spoken mode V12) s h in let p = idontwant-counted mode s (t .0) (t .1) in let m = t .2 in omega arith
+    let t = accept-records (spoken mode V12) s h in
+    let p = idontwant-counted mode s (t .0) (t .1) in let m = t .2 in omega arith

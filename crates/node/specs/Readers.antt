@@ -139,7 +139,8 @@ module _ (n : Node) (ss cs : List ℕ) (ed : Edition) (body : List ℕ) (i : ℕ
     allowed u =
         let t = plan-takes n ss cs ed body i word at m id .0 plan in
         either (allowsUnsigned (n .cache .flags)) (λ on. on)
-        (λ off. clash (let z = fit-signed (n .cache .flags) m word (t .from-start) (t .from-end) (t .seqno-start) (t .seqno-end)
+        (λ off. clash (let z = fit-signed (n .cache .flags) m word (t .from-start) (t .from-end) (t .seqno-start)
+        (t .seqno-end)
         (t .fit) off in cc))
 
     pub admitted-not-asked : (n .«max_seen» ≡ 0 → ⊥)
@@ -198,9 +199,10 @@ pub ask-asks : (n : Node) (ss cs body i : List ℕ) → among i (offered (modeOf
     × (askBytes n ss body ≡ encodeRpc (request (unseenOf n ss (offered (modeOf (n .cache .flags)) body))))
 unfolding askBytes
 ask-asks n ss cs body i h k =
-    let e : among i (unseenOf n ss (offered (modeOf (n .cache .flags)) body)) ≡ true = ap (among i) (unseen-gateway n ss cs (offered (modeOf (n .cache .flags)) body))
-    ∙ asked-exactly (gatewayIn n ss cs) i (offered (modeOf (n .cache .flags)) body) ∙ rw (h, k) in
-    (e, written-for i (unseenOf n ss (offered (modeOf (n .cache .flags)) body)) (request (unseenOf n ss (offered (modeOf (n .cache .flags)) body))) e)
+    let is = offered (modeOf (n .cache .flags)) body in
+    let e : among i (unseenOf n ss is) ≡ true = ap (among i) (unseen-gateway n ss cs is)
+    ∙ asked-exactly (gatewayIn n ss cs) i is ∙ rw (h, k) in
+    (e, written-for i (unseenOf n ss is) (request (unseenOf n ss is)) e)
 
 -- ---- serve sends again in every round
 -- node k comes after any number of advertises, asks and serves from node n on, as their contracts have them; the stores
@@ -232,11 +234,13 @@ unfoldable pub servedBytes : Node → List ℕ → List ℕ → Edition → List
 servedBytes n ss cs ed body second out =
     whenFine (lentOf n ss cs)
     (whenTaken (acceptOf (spoken (modeOf (n .cache .flags)) ed) body)
-    (whenTaken (acceptOf (spoken (modeOf (n .cache .flags)) V12) second) (replyBytes (cachedOf (n .cache) cs (remaining (modeOf (n .cache .flags)) body second)) out) []) [])
+    (whenTaken (acceptOf (spoken (modeOf (n .cache .flags)) V12) second)
+    (replyBytes (cachedOf (n .cache) cs (remaining (modeOf (n .cache .flags)) body second)) out) []) [])
     []
 
 module _ (n : Node) (ss cs : List ℕ) (ed : Edition) (body second : List ℕ) where
-  writes-by : (out : List ℕ) (l : Lent) (r q : Checked) → lentOf n ss cs ≡ l → acceptOf (spoken (modeOf (n .cache .flags)) ed) body ≡ r
+  writes-by : (out : List ℕ) (l : Lent) (r q : Checked) → lentOf n ss cs ≡ l
+      → acceptOf (spoken (modeOf (n .cache .flags)) ed) body ≡ r
       → acceptOf (spoken (modeOf (n .cache .flags)) V12) second ≡ q
       → serveLeft n ss cs ed body second out ≡ sets out 0 (servedBytes n ss cs ed body second out)
   unfolding serveLeft servedBytes
@@ -248,7 +252,8 @@ module _ (n : Node) (ss cs : List ℕ) (ed : Edition) (body second : List ℕ) w
   pub serve-writes : (out : List ℕ)
       → serveLeft n ss cs ed body second out ≡ sets out 0 (servedBytes n ss cs ed body second out)
   serve-writes out =
-      writes-by out (lentOf n ss cs) (acceptOf (spoken (modeOf (n .cache .flags)) ed) body) (acceptOf (spoken (modeOf (n .cache .flags)) V12) second) refl refl refl
+      writes-by out (lentOf n ss cs) (acceptOf (spoken (modeOf (n .cache .flags)) ed) body)
+      (acceptOf (spoken (modeOf (n .cache .flags)) V12) second) refl refl refl
 
   same-length : (out out2 : List ℕ) → length out2 ≡ length out
       → (serveAnswer n ss cs ed body second out2 ≡ serveAnswer n ss cs ed body second out)
@@ -303,7 +308,8 @@ pub last-beat : (n : Node) (ss cs : List ℕ) → lentOf n ss cs ≡ lent.Fine �
 last-beat n ss cs fine h = beat-says n ss cs (2 ^ 64 - 1) fine (omega arith)
 
 pub last-admit : (n : Node) (ss cs : List ℕ) (ed : Edition) (body : List ℕ) (i a e x y z w : ℕ)
-    → lentOf n ss cs ≡ lent.Fine → acceptOf (spoken (modeOf (n .cache .flags)) ed) body ≡ checked.Fine → messageAt (modeOf (n .cache .flags)) body i ≡ found.At a e
+    → lentOf n ss cs ≡ lent.Fine → acceptOf (spoken (modeOf (n .cache .flags)) ed) body ≡ checked.Fine
+    → messageAt (modeOf (n .cache .flags)) body i ≡ found.At a e
     → admissionOf (n .cache .flags) (between body a e) true ≡ admission.Fit x y z w → n .clock < 2 ^ 64
     → planned n ss cs ed body i true (2 ^ 64 - 1) ≡ taken (between body a e) (idBytes (between body a e) x y z w)
 last-admit n ss cs ed body i a e x y z w fine ok there fit h =

@@ -219,7 +219,8 @@ module _ (at : ℕ) (g : Gateway) (h : g .clock ≤ at) (o : Ordered g) where
   pub admit-ordered : (m id : List ℕ) → Ordered (afterAdmit at m id g)
   unfolding afterAdmit
   admit-ordered m id =
-      order-inserted (until (g .clock) (g .ttl)) (g .max-seen) at (g .ttl) (formOf (modeOf (g .flags)) m id) (live at (g .seen))
+      order-inserted (until (g .clock) (g .ttl)) (g .max-seen) at (g .ttl) (formOf (modeOf (g .flags)) m id)
+      (live at (g .seen))
       (until-later (g .clock) at (g .ttl) h)
       (order-live (until (g .clock) (g .ttl)) at (g .seen) o)
 
@@ -328,7 +329,8 @@ module _ (n : Node) (ss cs : List ℕ) (at : ℕ) (m id : List ℕ) (typed : Typ
       let stores : cacheLentOf cacheAfter (admitCache n ss cs at (taken m id)) ≡ cacheLent.Fine =
       either (heldAt n ss at (formOf (modeOf (n .cache .flags)) m id)) (λ u. rw u (t .messages))
       (λ u. rw u (under-fine (n .cache) cs m id (t .messages) (typed .messages .sized) small k own)) in
-      let types : cacheTyped cacheAfter = either (heldAt n ss at (formOf (modeOf (n .cache .flags)) m id)) (λ u. rw u (typed .messages))
+      let types : cacheTyped cacheAfter = either (heldAt n ss at (formOf (modeOf (n .cache .flags)) m id))
+      (λ u. rw u (typed .messages))
       (λ u. rw u (under-typed m id (n .cache) (typed .messages))) in
       let p = rw (node-after, store-after) at o in
       rw (node-after, store-after)
@@ -424,5 +426,6 @@ reached-well-formed {n} {ss} {cs} r = fine-well-formed-node n ss cs (reached-typ
 -- after any history, evictions, windows opened and places used again too, the places kept beside a message are those of
 -- its topics
 pub reached-topics : {n : Node} {ss cs : List ℕ} → Reached n ss cs → (i : ℕ) → i < n .cache .count
-    → topicsAt (tableOf (n .cache)) (rowOf (n .cache) i) ≡ topicPlaces (modeOf (n .cache .flags)) (messageIn (n .cache .len) cs (rowOf (n .cache) i))
+    → topicsAt (tableOf (n .cache)) (rowOf (n .cache) i)
+    ≡ topicPlaces (modeOf (n .cache .flags)) (messageIn (n .cache .len) cs (rowOf (n .cache) i))
 reached-topics r = reached-well-formed r .messages .topics

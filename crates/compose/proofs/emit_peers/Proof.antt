@@ -13,11 +13,11 @@ use Rattle.compose.proofs.emit_peers.Statement.{statement}
 use Rattle.compose.proofs.emit_peers.Tie as tie
 
 abbrev Inv-loop : tie.InvT-loop
-Inv-loop mode records bytes from out₀ at n i₀ end₀ out i end =
+Inv-loop records bytes from out₀ at n i₀ end₀ out i end =
     Going out₀ at (repeated (λ p. bytesField 2 (encodePeerInfo p)) (peersFrom bytes (rowsFrom records from))) out end (repeated (λ p. bytesField 2 (encodePeerInfo p)) (peersFrom bytes (rowsFrom records i))) × (length out ≡ length out₀) × (n ≡ length records / 20)
 
 abbrev μ-loop : tie.MeasureT-loop
-μ-loop mode records bytes from out₀ at n i₀ end₀ out i end =
+μ-loop records bytes from out₀ at n i₀ end₀ out i end =
     length records / 20 - i
 
 loop-holds : tie.Need-loop-holds Inv-loop μ-loop

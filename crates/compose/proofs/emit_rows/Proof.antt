@@ -10,11 +10,11 @@ use Rattle.compose.proofs.emit_rows.Statement.{statement}
 use Rattle.compose.proofs.emit_rows.Tie as tie
 
 abbrev Inv-loop : tie.InvT-loop
-Inv-loop mode records bytes code n out₀ at rows i₀ end₀ out i end =
+Inv-loop records bytes code n out₀ at rows i₀ end₀ out i end =
     Going out₀ at (eachRow code n bytes (lentRows records)) out end (eachRow code n bytes (rowsFrom records i)) × (length out ≡ length out₀) × (rows ≡ length records / 20)
 
 abbrev μ-loop : tie.MeasureT-loop
-μ-loop mode records bytes code n out₀ at rows i₀ end₀ out i end =
+μ-loop records bytes code n out₀ at rows i₀ end₀ out i end =
     length records / 20 - i
 
 loop-holds : tie.Need-loop-holds Inv-loop μ-loop

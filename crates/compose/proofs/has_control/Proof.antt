@@ -10,11 +10,11 @@ use Rattle.compose.proofs.has_control.Statement.{statement}
 use Rattle.compose.proofs.has_control.Tie as tie
 
 abbrev Inv-loop : tie.InvT-loop
-Inv-loop mode records n i₀ i =
+Inv-loop records n i₀ i =
     (hasRow (lentRows records) ≡ hasRow (rowsFrom records i)) × (n ≡ length records / 20)
 
 abbrev μ-loop : tie.MeasureT-loop
-μ-loop mode records n i₀ i =
+μ-loop records n i₀ i =
     length records / 20 - i
 
 loop-holds : tie.Need-loop-holds Inv-loop μ-loop

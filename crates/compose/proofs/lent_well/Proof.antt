@@ -11,10 +11,10 @@ use Rattle.compose.proofs.lent_well.Statement.{statement}
 use Rattle.compose.proofs.lent_well.Tie as tie
 
 abbrev Inv-loop : tie.InvT-loop
-Inv-loop mode records bytes n i₀ message₀ prune₀ i message prune = lentFrom (length bytes) message prune (rowsFrom records i) ≡ lentWell records bytes
+Inv-loop records bytes n i₀ message₀ prune₀ i message prune = lentFrom (length bytes) message prune (rowsFrom records i) ≡ lentWell records bytes
 
 abbrev μ-loop : tie.MeasureT-loop
-μ-loop mode records bytes n i₀ message₀ prune₀ i message prune = length records / 20 - i
+μ-loop records bytes n i₀ message₀ prune₀ i message prune = length records / 20 - i
 
 returns : tie.Need-returns Inv-loop μ-loop
 returns c = lent-parts _ _ (c .if1 .taken)

@@ -10,10 +10,10 @@ use Rattle.compose.proofs.message_row.Statement.{statement}
 use Rattle.compose.proofs.message_row.Tie as tie
 
 abbrev Inv-loop : tie.InvT-loop
-Inv-loop mode records bytes index n i₀ count₀ i count = (count ≤ i) × (count ≤ index) × Passed records bytes count i
+Inv-loop records bytes index n i₀ count₀ i count = (count ≤ i) × (count ≤ index) × Passed records bytes count i
 
 abbrev μ-loop : tie.MeasureT-loop
-μ-loop mode records bytes index n i₀ count₀ i count = length records / 20 - i
+μ-loop records bytes index n i₀ count₀ i count = length records / 20 - i
 
 loop-holds : tie.Need-loop-holds Inv-loop μ-loop
 loop-holds c = (search needs, search needs, passed-none _ _)

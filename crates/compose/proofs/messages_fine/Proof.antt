@@ -13,11 +13,11 @@ use Rattle.compose.proofs.messages_fine.Statement.{statement}
 use Rattle.compose.proofs.messages_fine.Tie as tie
 
 abbrev Inv-loop : tie.InvT-loop
-Inv-loop mode records bytes flags n i₀ i =
+Inv-loop records bytes flags n i₀ i =
     firstUnfit flags (messagesIn bytes (rowsFrom records i)) ≡ firstUnfit flags (messagesIn bytes (lentRows records))
 
 abbrev μ-loop : tie.MeasureT-loop
-μ-loop mode records bytes flags n i₀ i = length records / 20 - i
+μ-loop records bytes flags n i₀ i = length records / 20 - i
 
 loop-holds : tie.Need-loop-holds Inv-loop μ-loop
 loop-holds c = refl

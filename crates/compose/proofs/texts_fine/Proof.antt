@@ -11,10 +11,10 @@ use Rattle.compose.proofs.texts_fine.Statement.{statement}
 use Rattle.compose.proofs.texts_fine.Tie as tie
 
 abbrev Inv-loop : tie.InvT-loop
-Inv-loop mode records bytes n i₀ i = textsFine bytes (rowsFrom records i) ≡ textsFine bytes (lentRows records)
+Inv-loop records bytes n i₀ i = textsFine bytes (rowsFrom records i) ≡ textsFine bytes (lentRows records)
 
 abbrev μ-loop : tie.MeasureT-loop
-μ-loop mode records bytes n i₀ i = length records / 20 - i
+μ-loop records bytes n i₀ i = length records / 20 - i
 
 loop-holds : tie.Need-loop-holds Inv-loop μ-loop
 loop-holds c = refl

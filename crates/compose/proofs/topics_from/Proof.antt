@@ -15,10 +15,10 @@ use Rattle.compose.proofs.topics_from.Statement.{statement}
 use Rattle.compose.proofs.topics_from.Tie as tie
 
 abbrev Inv-loop : tie.InvT-loop
-Inv-loop mode records bytes from n i₀ count₀ long₀ i count long = (count ≤ i) × Counted (topicsFrom bytes (rowsFrom records from)) count long (topicsFrom bytes (rowsFrom records i))
+Inv-loop records bytes from n i₀ count₀ long₀ i count long = (count ≤ i) × Counted (topicsFrom bytes (rowsFrom records from)) count long (topicsFrom bytes (rowsFrom records i))
 
 abbrev μ-loop : tie.MeasureT-loop
-μ-loop mode records bytes from n i₀ count₀ long₀ i count long = length records / 20 - i
+μ-loop records bytes from n i₀ count₀ long₀ i count long = length records / 20 - i
 
 loop-holds : tie.Need-loop-holds Inv-loop μ-loop
 loop-holds c = (search needs, counted-all _)

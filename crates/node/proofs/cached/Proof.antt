@@ -10,10 +10,10 @@ use Rattle.node.proofs.cached.Statement.{statement}
 use Rattle.node.proofs.cached.Tie as tie
 
 abbrev Inv-loop : tie.InvT-loop
-Inv-loop mode lens id-lens ids ring body from n to₀ k₀ i₀ to k i = Found lens ring (idsIn 128 ring id-lens ids) body from n to k i × (length to ≡ length to₀)
+Inv-loop lens id-lens ids ring body from n to₀ k₀ i₀ to k i = Found lens ring (idsIn 128 ring id-lens ids) body from n to k i × (length to ≡ length to₀)
 
 abbrev μ-loop : tie.MeasureT-loop
-μ-loop mode lens id-lens ids ring body from n to₀ k₀ i₀ to k i = n - i
+μ-loop lens id-lens ids ring body from n to₀ k₀ i₀ to k i = n - i
 
 loop-holds : tie.Need-loop-holds Inv-loop μ-loop
 loop-holds c = (found-all _ _ _ _ _ _ _, refl)

@@ -11,10 +11,10 @@ use Rattle.node.proofs.emit_ids.Statement.{statement}
 use Rattle.node.proofs.emit_ids.Tie as tie
 
 abbrev Inv-loop : tie.InvT-loop
-Inv-loop mode rows n id-lens ids out₀ at end₀ i₀ out end i = (i ≤ n) × Going out₀ at (idsLeft n rows id-lens ids 0) out end (idsLeft n rows id-lens ids i) × (length out ≡ length out₀)
+Inv-loop rows n id-lens ids out₀ at end₀ i₀ out end i = (i ≤ n) × Going out₀ at (idsLeft n rows id-lens ids 0) out end (idsLeft n rows id-lens ids i) × (length out ≡ length out₀)
 
 abbrev μ-loop : tie.MeasureT-loop
-μ-loop mode rows n id-lens ids out₀ at end₀ i₀ out end i = n - i
+μ-loop rows n id-lens ids out₀ at end₀ i₀ out end i = n - i
 
 loop-holds : tie.Need-loop-holds Inv-loop μ-loop
 loop-holds c = let b = c .before .before .before .before in let a = b .args in (omega arith, going-all (now (a .out)) (a .at) (idsLeft (a .n) (now (a .rows)) (now (a .id-lens)) (now (a .ids)) 0) (b .pre .1 .1), refl)

@@ -13,10 +13,10 @@ use Rattle.node.proofs.expiries_rise.Statement.{statement}
 use Rattle.node.proofs.expiries_rise.Tie as tie
 
 abbrev Inv-loop : tie.InvT-loop
-Inv-loop mode expiry ring last₀ i₀ last i = (i ≤ ring .count) × (risesFrom last (drop i (inUse ring expiry)) ≡ risesFrom 0 (inUse ring expiry))
+Inv-loop expiry ring last₀ i₀ last i = (i ≤ ring .count) × (risesFrom last (drop i (inUse ring expiry)) ≡ risesFrom 0 (inUse ring expiry))
 
 abbrev μ-loop : tie.MeasureT-loop
-μ-loop mode expiry ring last₀ i₀ last i = ring .count - i
+μ-loop expiry ring last₀ i₀ last i = ring .count - i
 
 loop-holds : tie.Need-loop-holds Inv-loop μ-loop
 loop-holds c = (omega arith, refl)

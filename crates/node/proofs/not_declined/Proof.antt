@@ -1,6 +1,6 @@
 -- `not_declined` meets its contract: the ids in the IDONTWANTs of the second body, none where it is empty, and the parts
 -- that are not among them.
-use mathlib.Core.Path.{_≡_, sym, ap, _∙_}
+use mathlib.Core.Path.{_≡_, refl, sym, ap, _∙_}
 use mathlib.Core.List.{List, [], _∷_}
 use Prim.Native.Nat.{ℕ}
 use native.Mathlib.Omega.{arith}
@@ -30,7 +30,7 @@ returns : tie.Need-returns
 returns c =
     let s = c .before .before .before .before .before .before .before .before .before in
     let q = c .before .before .parts-without .ensures in
-    let u = none-declined (a .mode) (s .args .unwanted .now) (s .args .from .now) (c .before .before .before .before .if1 .taken)
+    let u = none-declined (s .args .mode) (s .args .unwanted .now) (s .args .from .now) (c .before .before .before .before .if1 .taken)
     in (
       q .0 ∙ ap (λ (l : List (List ℕ)). without l (partsIn (s .args .body .now) (s .args .from .now) (s .args .n))) u,
       q
@@ -46,7 +46,7 @@ slice-aggregate-parts-at-2 c = search needs
 parts-at-requires : tie.Need-parts-at-requires
 parts-at-requires c κs =
     let s = c .before .before .before .before .before .before .before in
-    ((omega arith, omega arith), (parts-none _ _, named-room (a .mode) (3 ∷ 5 ∷ 1 ∷ []) (s .args .unwanted .now) (s .pre .1 .1)))
+    ((omega arith, omega arith), (parts-none _ _, named-room refl (3 ∷ 5 ∷ 1 ∷ []) (s .args .unwanted .now) (s .pre .1 .1)))
 
 slice-aggregate-parts-without : tie.Need-slice-aggregate-parts-without
 slice-aggregate-parts-without c = search needs
@@ -60,11 +60,9 @@ same-length-2 c = search needs
 returns-2 : tie.Need-returns-2
 unfolding unwantedIn
 returns-2 c =
-    let s = c .before .before .before .before .before .before .before .before .before .before .before .before .before
-    .before in
+    let s = c .before .before .before .before .before .before .before .before .before .before .before .before .before .before in
     let q = c .before .before .parts-without2 .ensures in
-    let u = named-is (3 ∷ 5 ∷ 1 ∷ []) (s .args .unwanted .now) (s .pre .1 .1) _ _ _ (c .before .before .before .before
-    .before .before .parts-at .ensures .0) in (
+    let u = named-is refl (3 ∷ 5 ∷ 1 ∷ []) (s .args .unwanted .now) (s .pre .1 .1) _ _ _ (c .before .before .before .before .before .before .parts-at .ensures .0) in (
       q .0 ∙ ap (λ (l : List (List ℕ)). without l (partsIn (s .args .body .now) (s .args .from .now) (s .args .n))) u,
       q
           .1,

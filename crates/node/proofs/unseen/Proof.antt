@@ -11,10 +11,10 @@ use Rattle.node.proofs.unseen.Statement.{statement}
 use Rattle.node.proofs.unseen.Tie as tie
 
 abbrev Inv-loop : tie.InvT-loop
-Inv-loop mode lens store ring flags body from n to₀ k₀ i₀ to k i = Picked (unseenFrom flags (idsIn 129 ring lens store)) body from n to k i × (length to ≡ length to₀)
+Inv-loop lens store ring flags body from n to₀ k₀ i₀ to k i = Picked (unseenFrom flags (idsIn 129 ring lens store)) body from n to k i × (length to ≡ length to₀)
 
 abbrev μ-loop : tie.MeasureT-loop
-μ-loop mode lens store ring flags body from n to₀ k₀ i₀ to k i = n - i
+μ-loop lens store ring flags body from n to₀ k₀ i₀ to k i = n - i
 
 loop-holds : tie.Need-loop-holds Inv-loop μ-loop
 loop-holds c = (picked-all _ _ _ _ _, refl)

@@ -27,10 +27,10 @@ use Rattle.node.proofs.parts.+field_at+parts_at.{statement}
 use Rattle.node.proofs.parts.+field_at+parts_at.Tie.{close}
 
 abbrev μ-field-at : Measures 3 field-at-kinds.ps ℕ
-μ-field-at κs a = 2 * length (now (a .1 .1 .1 .1 .0))
+μ-field-at κs a = 2 * length (now (a .1 .1 .1 .1 .1 .0))
 
 abbrev μ-parts-at : Measures 3 parts-at-kinds.ps ℕ
-μ-parts-at κs a = 2 * length (now (a .1 .1 .1 .0)) + 1
+μ-parts-at κs a = 2 * length (now (a .1 .1 .1 .1 .0)) + 1
 
 abbrev field-at-at : ℕ → In 3 field-at-kinds.ps
 field-at-at t = and 3 field-at-kinds.ps (is 3 field-at-kinds.ps μ-field-at t) field-at.Pre
@@ -59,7 +59,7 @@ field-at-add-parts-at :
     (t : ℕ) →
     field-at-lts.Need-add-parts-at (parts-at-below t, parts-at.Post) (field-at-at t) field-at.Post
 field-at-add-parts-at t c = let a = c .before .before .before .before .before .before .before .before .before .args in
-    let q = field-inside mode (a .body .now) (a .start) (a .end) (a .path .now) (a .f)
+    let q = field-inside (a .body .now) (a .start) (a .end) (a .path .now) (a .f)
     (c .before .before .before .before .before .before .before .before .before .pre .1 .1 .0) (
       (c .before .before .before .before .before .before .before .before .before .pre .1 .0 .0),
       (c .before .before .before .before .before .before .before .before .before .pre .1 .0 .1),
@@ -67,7 +67,7 @@ field-at-add-parts-at t c = let a = c .before .before .before .before .before .b
 
 field-at-add-parts-at-2 : (t : ℕ) → field-at-lts.Need-add-parts-at-2 (field-at-claims t) (field-at-at t) field-at.Post
 field-at-add-parts-at-2 t c = let a = c .before .before .before .before .before .before .before .before .before .before .args in
-    let q = field-inside (a .mode) (a .body .now) (a .start) (a .end) (a .path .now) (a .f)
+    let q = field-inside (a .body .now) (a .start) (a .end) (a .path .now) (a .f)
     (c .before .before .before .before .before .before .before .before .before .before .pre .1 .1 .0) (
       (c .before .before .before .before .before .before .before .before .before .before .pre .1 .0 .0),
       (c .before .before .before .before .before .before .before .before .before .before .pre .1 .0 .1),
@@ -87,19 +87,19 @@ field-at-part-parts-at-end t c = search needs
 field-at-parts-at-requires : (t : ℕ) → field-at-lts.Need-parts-at-requires (field-at-claims t) (field-at-at t) field-at.Post
 field-at-parts-at-requires t c κs = let a = c .before .before .before .before .before .before .before .before .before .before .before .before .args in
     let k = tail-size (a .path .now) in
-    let e = field-there (a .mode) (a .body .now) (a .start) (a .end) (a .path .now) (a .f)
+    let e = field-there (a .body .now) (a .start) (a .end) (a .path .now) (a .f)
     (c .before .before .before .before .before .before .before .before .before .before .before .before .pre .1 .1 .0) (
       (c .before .before .before .before .before .before .before .before .before .before .before .before .pre .1 .0 .0),
       (c .before .before .before .before .before .before .before .before .before .before .before .before .pre .1 .0 .1),
     )
-    (c .before .before .before .before .before .before .before .if1 .taken) (c .before .before .before .before .if2 .taken) in (
+    (a .mode) (c .before .before .before .before .before .before .before .if1 .taken) (c .before .before .before .before .if2 .taken) in (
       omega (
         arith,
         (c .before .before .before .before .before .before .before .before .before .before .before .before .pre .0),
         (c .before .before .before .before .before .before .before .before .before .before .before .before .pre .1 .0 .2),
       ),
       (
-        field-inside (a .mode) (a .body .now) (a .start) (a .end) (a .path .now) (a .f)
+        field-inside (a .body .now) (a .start) (a .end) (a .path .now) (a .f)
             (c .before .before .before .before .before .before .before .before .before .before .before .before .pre .1 .1 .0) (
               (c .before .before .before .before .before .before .before .before .before .before .before .before .pre .1 .0 .0),
               (c .before .before .before .before .before .before .before .before .before .before .before .before .pre .1 .0 .1),
@@ -120,24 +120,24 @@ field-at-returns :
     (t : ℕ) →
     field-at-lts.Need-returns (parts-at-below t, parts-at.Post) (field-at-at t) field-at.Post
 field-at-returns t c = let a = c .before .before .before .before .before .before .before .before .before .before .before .before .before .before .before .args in
-    let e = field-there mode (a .body .now) (a .start) (a .end) (a .path .now) (a .f)
+    let e = field-there (a .body .now) (a .start) (a .end) (a .path .now) (a .f)
     (c .before .before .before .before .before .before .before .before .before .before .before .before .before .before .before .pre .1 .1 .0) (
       (c .before .before .before .before .before .before .before .before .before .before .before .before .before .before .before .pre .1 .0 .0),
       (c .before .before .before .before .before .before .before .before .before .before .before .before .before .before .before .pre .1 .0 .1),
     )
-    (c .before .before .before .before .before .before .before .before .before .before .if1 .taken)
+    (a .mode) (c .before .before .before .before .before .before .before .before .before .before .if1 .taken)
     (c .before .before .before .before .before .before .before .if2 .taken) in
     ((c .before .before .parts-at .ensures .0) ∙ ap (λ (l : List (List ℕ)). partsIn (a .body .now) (a .table .now) (a .n) ++ l) (sym e), (c .before .before .parts-at .ensures .1))
 
 field-at-returns-2 :
     (t : ℕ) →
     field-at-lts.Need-returns-2 (parts-at-below t, parts-at.Post) (field-at-at t) field-at.Post
-field-at-returns-2 t c = let a = c .before .before .before .before .before .before .before .before .args in (none-more (a .body .now) (a .table .now) (a .n) _ (field-other mode (a .path .now) (between (a .body .now) (a .start) (a .end)) (a .f) (c .before .before .before .if1 .taken) (c .if2 .left)), (c .before .before .before .before .before .before .before .before .pre .1 .1 .1 .0))
+field-at-returns-2 t c = let a = c .before .before .before .before .before .before .before .before .args in (none-more (a .body .now) (a .table .now) (a .n) _ (field-other (a .mode) (a .path .now) (between (a .body .now) (a .start) (a .end)) (a .f) (c .before .before .before .if1 .taken) (c .if2 .left)), (c .before .before .before .before .before .before .before .before .pre .1 .1 .1 .0))
 
 field-at-returns-3 :
     (t : ℕ) →
     field-at-lts.Need-returns-3 (parts-at-below t, parts-at.Post) (field-at-at t) field-at.Post
-field-at-returns-3 t c = let a = c .before .before .before .before .before .args in (none-more (a .body .now) (a .table .now) (a .n) _ (field-no mode (a .path .now) (between (a .body .now) (a .start) (a .end)) (a .f) (c .if1 .left)), (c .before .before .before .before .before .pre .1 .1 .1 .0))
+field-at-returns-3 t c = let a = c .before .before .before .before .before .args in (none-more (a .body .now) (a .table .now) (a .n) _ (field-no (a .mode) (a .path .now) (between (a .body .now) (a .start) (a .end)) (a .f) (c .if1 .left)), (c .before .before .before .before .before .pre .1 .1 .1 .0))
 
 abbrev parts-at-Inv-loop : parts-at-lts.InvT-loop
 parts-at-Inv-loop mode body start end path table₀ n at₀ k₀ table at k = Walked mode body start end path table₀ n table at k × (length table ≡ length table₀)
@@ -214,7 +214,7 @@ parts-at-field-at-requires t c κs = let a = c .before .before .before .before .
           record { order = m .ends; fits = m .within },
           (
             l .inv .0 .parts,
-            walked-room _ _ _ _ _ _ _ _ _ (l .inv .0) _ e (l .inv .1)
+            walked-room _ _ _ _ _ _ _ _ _ _ (l .inv .0) _ e (l .inv .1)
                 (c .before .before .before .before .before .before .before .before .before .before .before .before .pre .1 .1 .1),
           ),
         ),
@@ -230,7 +230,7 @@ parts-at-loop-again : (t : ℕ) → parts-at-lts.Need-loop-again (parts-at-claim
 parts-at-loop-again t c = let a = c .before .before .before .before .before .before .before .before .before .before .before .before .before .before .before .args in let l = c .before .before .before .before .before .before .before .before .before .before .loop in
     let e = sym (c .before .before .before .before .before .step .given .1) ∙ (c .before .before .before .before .before .before .before .read-field .ensures) in
     let k = l .inv .1 in
-    (walked-turn _ _ _ _ _ _ _ _ _ (l .inv .0) _ e _ _ (c .before .before .field-at .ensures .0) (c .before .before .field-at .ensures .1), omega arith)
+    (walked-turn _ _ _ _ _ _ _ _ _ _ (l .inv .0) _ e _ _ (c .before .before .field-at .ensures .0) (c .before .before .field-at .ensures .1), omega arith)
 
 parts-at-same-length-4 : (t : ℕ) → parts-at-lts.Need-same-length-4 (parts-at-claims t) (parts-at-at t) parts-at.Post parts-at-Inv-loop parts-at-μ-loop
 parts-at-same-length-4 t c = c .before .loop .inv .1

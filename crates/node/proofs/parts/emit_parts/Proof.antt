@@ -15,10 +15,10 @@ use Rattle.node.proofs.parts.emit_parts.Statement.{statement}
 use Rattle.node.proofs.parts.emit_parts.Tie as tie
 
 abbrev Inv-loop : tie.InvT-loop
-Inv-loop mode s table n field out₀ at end₀ i₀ out end i = (i ≤ n) × Going out₀ at (repeated (bytesField field) (partsIn s table n)) out end (repeated (bytesField field) (drop i (partsIn s table n))) × (length out ≡ length out₀)
+Inv-loop s table n field out₀ at end₀ i₀ out end i = (i ≤ n) × Going out₀ at (repeated (bytesField field) (partsIn s table n)) out end (repeated (bytesField field) (drop i (partsIn s table n))) × (length out ≡ length out₀)
 
 abbrev μ-loop : tie.MeasureT-loop
-μ-loop mode s table n field out₀ at end₀ i₀ out end i = n - i
+μ-loop s table n field out₀ at end₀ i₀ out end i = n - i
 
 loop-holds : tie.Need-loop-holds Inv-loop μ-loop
 loop-holds c = let a = c .before .before .before .args in (omega arith, going-all (a .out .now) (a .at) (repeated (bytesField (a .field)) (partsIn (a .s .now) (a .table .now) (a .n))) (c .before .before .before .pre .1 .1), refl)

@@ -13,16 +13,16 @@ use Rattle.node.proofs.parts.first_mentions.Statement.{statement}
 use Rattle.node.proofs.parts.first_mentions.Tie as tie
 
 abbrev Inv-loop : tie.InvT-loop
-Inv-loop mode body from n to k i a e j₀ j = (j ≤ k) × (among (between body a e) (drop j (partsIn body to k)) ≡ among (between body a e) (partsIn body to k))
+Inv-loop body from n to k i a e j₀ j = (j ≤ k) × (among (between body a e) (drop j (partsIn body to k)) ≡ among (between body a e) (partsIn body to k))
 
 abbrev μ-loop : tie.MeasureT-loop
-μ-loop mode body from n to k i a e j₀ j = k - j
+μ-loop body from n to k i a e j₀ j = k - j
 
 abbrev Inv-named : tie.InvT-named
-Inv-named mode body from n to₀ k₀ i₀ to k i = Named body from n to k i × (length to ≡ length to₀)
+Inv-named body from n to₀ k₀ i₀ to k i = Named body from n to k i × (length to ≡ length to₀)
 
 abbrev μ-named : tie.MeasureT-named
-μ-named mode body from n to₀ k₀ i₀ to k i = n - i
+μ-named body from n to₀ k₀ i₀ to k i = n - i
 
 named-holds : tie.Need-named-holds Inv-loop μ-loop Inv-named μ-named
 named-holds c = let a = c .before .before .before .args in (named-all (a .body .now) (a .from .now) (a .n) (a .to .now), refl)

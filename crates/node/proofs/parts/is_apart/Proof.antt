@@ -12,10 +12,10 @@ use Rattle.node.proofs.parts.is_apart.Statement.{statement}
 use Rattle.node.proofs.parts.is_apart.Tie as tie
 
 abbrev Inv-loop : tie.InvT-loop
-Inv-loop mode s table n bytes i₀ i = (i ≤ n) × (among bytes (drop i (partsIn s table n)) ≡ among bytes (partsIn s table n))
+Inv-loop s table n bytes i₀ i = (i ≤ n) × (among bytes (drop i (partsIn s table n)) ≡ among bytes (partsIn s table n))
 
 abbrev μ-loop : tie.MeasureT-loop
-μ-loop mode s table n bytes i₀ i = n - i
+μ-loop s table n bytes i₀ i = n - i
 
 loop-holds : tie.Need-loop-holds Inv-loop μ-loop
 loop-holds c = (omega arith, refl)

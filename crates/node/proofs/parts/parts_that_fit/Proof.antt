@@ -11,10 +11,10 @@ use Rattle.node.proofs.parts.parts_that_fit.Statement.{statement}
 use Rattle.node.proofs.parts.parts_that_fit.Tie as tie
 
 abbrev Inv-loop : tie.InvT-loop
-Inv-loop mode s table n field room left₀ i₀ left i = (i ≤ n) × (fitting field room (partsIn s table n) ≡ i + fitting field left (drop i (partsIn s table n)))
+Inv-loop s table n field room left₀ i₀ left i = (i ≤ n) × (fitting field room (partsIn s table n) ≡ i + fitting field left (drop i (partsIn s table n)))
 
 abbrev μ-loop : tie.MeasureT-loop
-μ-loop mode s table n field room left₀ i₀ left i = n - i
+μ-loop s table n field room left₀ i₀ left i = n - i
 
 loop-holds : tie.Need-loop-holds Inv-loop μ-loop
 loop-holds c = let a = c .before .before .args in (omega arith, sym (zero-add (fitting (a .field) (a .room) (partsIn (a .s .now) (a .table .now) (a .n)))))

@@ -11,10 +11,10 @@ use Rattle.node.proofs.parts.parts_without.Statement.{statement}
 use Rattle.node.proofs.parts.parts_without.Tie as tie
 
 abbrev Inv-loop : tie.InvT-loop
-Inv-loop mode body from n other table m to₀ k₀ i₀ to k i = Picked (without (partsIn other table m)) body from n to k i × (length to ≡ length to₀)
+Inv-loop body from n other table m to₀ k₀ i₀ to k i = Picked (without (partsIn other table m)) body from n to k i × (length to ≡ length to₀)
 
 abbrev μ-loop : tie.MeasureT-loop
-μ-loop mode body from n other table m to₀ k₀ i₀ to k i = n - i
+μ-loop body from n other table m to₀ k₀ i₀ to k i = n - i
 
 loop-holds : tie.Need-loop-holds Inv-loop μ-loop
 loop-holds c = (picked-all _ _ _ _ _, refl)
