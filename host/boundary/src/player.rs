@@ -271,7 +271,7 @@ struct States {
 impl States {
     fn new() -> States {
         let mut states = States { node: Box::new([0; NODE_SIZE]), seen: vec![0; 33282], cache: vec![0; 266240], lent: [0, 0], made: vec![0; 65600] };
-        if let Ok(fresh) = Gateway::start(Settings { ttl: 0, max_seen: 0, history_len: 1, max_messages: 0, allow_unsigned: false }) {
+        if let Ok(fresh) = Gateway::start(Settings { ttl: 0, max_seen: 0, history_len: 1, max_messages: 0, allow_unsigned: false, skip_groups: false }) {
             states.save(&fresh);
         }
         states
