@@ -9,19 +9,20 @@ itself, so histories can stand one after the other in one input.
 
 `expected` takes an input as bytes. What the caches hold, and what a body says or
 why it is refused (1 to 7), is the Rust's answer; where in the body, places.py has
-found; in edition 1.2, which the Rust does not have, both are editions.py's. The limits that the Rust does not
+found; in edition 1.2 and where groups are skipped, which the Rust does not have, both are groups.py's. A message that has groups is
+put into the Rust's cache without them, and told with them. The limits that the Rust does not
 have (10, 11, 20 to 30, 33, 40) are the scope's and stand here, as does the form
 of the records; what a sender and its key must be (34 to 36) stands in peers.py.
 Everything random comes from one seeded `random.Random`.
 """
 
-import editions
+import groups
 import nodes
 import peers
 from bodies import BROKEN, MAX_RECORDS, PARTS, RPC, declining_body, many, other_field, random_message, refusal, tagged, within
 from oracle import hexed, parse_decode
 from peers import A, B, ECDSA, F, HASHES, KEYLESS, KEYS, LONGEST, NO_KEYS, NO_PEERS, RSA, SENDERS, identity, key_bytes, mismatch, peer_of
-from places import EDITION_ROWS, EDITIONS, MORE_ROWS, ROWS, V1_1, V1_2, find, with_place
+from places import EDITION_ROWS, EDITIONS, GROUP_ROWS, GROUPS, MORE_GROUP_ROWS, MORE_ROWS, OF_GROUPS, ROWS, V1_1, V1_2, find, skips_groups, with_place
 from records import Records
 from wire import MAX_BODY, MAX_CONTENT, TOP, blob, damaged, edge_field, header, then_random, varint
 
@@ -42,11 +43,11 @@ SIGNATURE = 64
 MAX_TOPICS = 4
 MAX_TOPIC = 1024
 MAX_MESSAGE = 4096
-MAX_FLAGS = 1
+MAX_FLAGS = nodes.MAX_FLAGS
 
 # Every refusal that the program can show.
 REFUSALS = {"insert": {33, 40}, "contains": {33}, "cache": {40}, "gossip": {29},
-            "put": {1, 2, 3, 4, 5, 6, 7, 10, 11, 20, 21, 22, 23, 24, 25, 26, 28, 29, 30, 34, 35, 36}}
+            "put": {1, 2, 3, 4, 5, 6, 7, *OF_GROUPS, 10, 11, 20, 21, 22, 23, 24, 25, 26, 28, 29, 30, 34, 35, 36}}
 
 
 # --- records -------------------------------------------------------------------
@@ -79,8 +80,8 @@ def steps_of(data):
 # --- the lines, from the Rust's answers ------------------------------------------
 
 def unfit(message, flags=0):
-    """Why the Rust's message may not be put: the scope's 21 to 30 without 27, and 34 to 36, or None. With the flag 1 one that has neither signature nor
-    key may."""
+    """Why the Rust's message may not be put: the scope's 21 to 30 without 27, and 34 to 36, or None. Where unsigned messages are allowed, one that has neither
+    signature nor key may."""
     sender, key = (None if message[name] is None else bytes.fromhex(message[name]) for name in ("from", "key"))
     size = {name: None if message[name] is None else len(message[name]) // 2 for name in ("raw", "from", "seqno", "signature")}
     topics = [len(topic) // 2 for topic in message["topic_ids"]]
@@ -94,7 +95,7 @@ def unfit(message, flags=0):
         return "refused 23"
     if size["signature"] is None and key is not None:
         return "refused 24"
-    if size["signature"] is None and flags != 1:
+    if size["signature"] is None and not nodes.allows_unsigned(flags):
         return "refused 25"
     if size["signature"] not in (None, SIGNATURE):
         return "refused 26 %d" % size["signature"]
@@ -113,27 +114,50 @@ def put_of(step):
     return {"put": (V1_1, *step[1:]), "put_in": step[1:]}.get(step[0])
 
 
-def refused_in_1_2(body):
-    """Why a body is refused in 1.2, or None."""
-    try:
-        editions.read(body, V1_2)
-    except editions.Refused as why:
-        return str(why)
-    return None
+class Put:
+    """What is made of a put, all texts: why it is refused, or None; the message's id and its bytes; and the body, the index and the bytes by which the Rust's cache
+    knows it."""
+
+    def __init__(self, refused, message=None, body=None, index=0, known=None):
+        self.refused = refused
+        if not refused:
+            self.id, self.raw, self.body, self.index, self.known = message["from"] + message["seqno"], message["raw"], body, index, known or message["raw"]
+
+
+def as_the_rust_has_it(message):
+    """A message of groups.py in the form of the Rust's answer."""
+    def shown(value):
+        return None if value is None else value.hex()
+    return {"raw": message.raw.hex(), "topic_ids": [topic.hex() for topic in message.each("topic")],
+            **{name: shown(message.last(name)) for name in ("from", "data", "seqno", "signature", "key")}}
+
+
+def without_groups(message):
+    """The known fields of a message alone."""
+    return b"".join(tagged({"from": 1, "data": 2, "seqno": 3, "topic": 4, "signature": 5, "key": 6}[name], value) for name, value in message.fields)
 
 
 def judged(edition, index, body, told, flags):
-    """(why a put is refused or None, id, the message's bytes), all texts, from the oracle's answer to `decode`. What 1.2 accepts the Rust does, too, and a message
-    is the same in both editions."""
-    refused = with_place(refusal(body, told), find, body) if edition == V1_1 else refused_in_1_2(body)
+    """What is made of a put, from the oracle's answer to `decode`. What 1.2 accepts the Rust does, too, and a message is the same in both editions; where groups are
+    skipped, the Rust is not asked what a body says."""
+    dialect = edition | flags & GROUPS
+    try:
+        rpc = None if dialect == V1_1 else groups.read(body, dialect)
+        refused = None if rpc else with_place(refusal(body, told), find, body)
+    except groups.Refused as why:
+        refused = str(why)
     if refused:
-        return refused, None, None
-    messages = parse_decode(told)[3]["publish"]
+        return Put(refused)
+    read = rpc.each("publish") if skips_groups(dialect) else []
+    messages = list(map(as_the_rust_has_it, read)) if skips_groups(dialect) else parse_decode(told)[3]["publish"]
     if index >= len(messages):
-        return "refused 20 %d" % len(messages), None, None
-    message = messages[index]
-    refused = unfit(message, flags)
-    return (refused, None, None) if refused else (None, message["from"] + message["seqno"], message["raw"])
+        return Put("refused 20 %d" % len(messages))
+    if refused := unfit(messages[index], flags):
+        return Put(refused)
+    if not skips_groups(dialect):
+        return Put(None, messages[index], body, index)
+    bare = without_groups(read[index])
+    return Put(None, messages[index], tagged(2, bare), 0, bare.hex())
 
 
 def without_rust(step, rows, put):
@@ -145,7 +169,7 @@ def without_rust(step, rows, put):
         return "refused 33 %d" % len(step[-1])
     if call == "gossip" and len(step[2]) > MAX_TOPIC:
         return "refused 29 %d" % len(step[2])
-    return put[0] if put else None
+    return put.refused if put else None
 
 
 def commands(step, put):
@@ -155,7 +179,7 @@ def commands(step, put):
         # From 0 on the unchanged file answers, else the copy whose arrival number can be set.
         return ["mc_new %d %d" % step[1:3] + (" %d" % step[3] if step[3] else "")]
     if put:
-        return ["mc_get " + put[1], "mc_put %s %d" % (hexed(step[-1]), step[-2])]
+        return ["mc_get " + put.id, "mc_put %s %d" % (hexed(put.body), put.index)]
     if call == "clean":
         return ["seen_gc %d" % step[1], "seen_dump"]
     if call == "insert":
@@ -168,7 +192,7 @@ def commands(step, put):
 
 
 def answer(step, told, put, kept):
-    """What the oracle told of a step, as the program says it. `kept` has the bytes of the last message stored under each id."""
+    """What the oracle told of a step, as the program says it. `kept` has the last put that was stored under each id."""
     call, words = step[0], told[0].split(" ")
     if call in ("seen", "cache", "flagged", "shift", "insert", "contains"):
         assert told[0] in {"insert": ("fresh", "held"), "contains": ("yes", "no")}.get(call, ("ok",)), told
@@ -180,11 +204,11 @@ def answer(step, told, put, kept):
         assert words[0] == "some" or told == ["none"], told
         return words[-1]
     if put:
-        assert told[1] == "ok " + put[1], told
+        assert told[1] == "ok " + put.id, told
         if words[0] == "some":
             return "held"
         assert told[0] == "none", told
-        kept[put[1]] = put[2]
+        kept[put.id] = put
         return "stored"
     if call == "gossip":
         if told == ["bad topic utf8"]:
@@ -193,8 +217,9 @@ def answer(step, told, put, kept):
         return " ".join(words[1:2] + ["=" + name for name in words[2:]])
     if told == ["none"]:
         return "-"
-    assert words == ["some", kept[step[1].hex()]], told
-    return "=" + words[1]
+    put = kept[step[1].hex()]
+    assert words == ["some", put.known], told
+    return "=" + put.raw
 
 
 def expected(oracle, data):
@@ -570,7 +595,7 @@ def flagged_history(r):
     for step in cache_history(r):
         if step[0] == "cache":
             steps.append(("flagged", *step[1:], r.choice((0, 1, 1, 1))))
-            steps += [("flagged", *step[1:], r.choice((2, 3, 256, 257, 65535)))] if r.randrange(4) == 0 else []
+            steps += [("flagged", *step[1:], r.choice((4, 5, 256, 257, 65535)))] if r.randrange(4) == 0 else []
         else:
             steps.append((*step[:2], loosened(r, step[2])) if step[0] == "put" and r.randrange(4) else step)
     return steps
@@ -857,13 +882,13 @@ def placed_named():
 def flag_named():
     """Flags among the settings; messages without a signature; both forms of a message, whose id is seen under two marks and cached once."""
     x, u, look = put_step(X), put_step(U), looks([NAME], [b"t"], 1)
-    for flags in (0, 1, 2, 3, 255, 256, 257, 65535):
+    for flags in (0, 1, 4, 5, 255, 256, 257, 65535):
         yield [("cache", 2, 4, 0), x, ("flagged", 2, 4, 7, flags), u, *look, x, *look]
     for history, most in BAD_SETTINGS[:4] + BAD_SETTINGS[7:9]:
-        yield [("flagged", 2, 4, 0, 1), ("flagged", history, most, 0, 1), ("flagged", history, most, 0, 2), u, *look]
+        yield [("flagged", 2, 4, 0, 1), ("flagged", history, most, 0, 1), ("flagged", history, most, 0, 4), u, *look]
     # Refused settings leave the flags that were there.
-    yield [("flagged", 2, 4, 0, 1), u, ("flagged", 2, 4, 0, 2), ("cache", 0, 4, 0), put_step(without(x_with(seqno=[b"2"]), 5)), *look,
-           ("flagged", 2, 4, 0, 0), ("flagged", 2, 4, 0, 3), u, x, *look, ("flagged", 2, 4, 0, 1), u, ("cache", 2, 4, 0), u, x, *look]
+    yield [("flagged", 2, 4, 0, 1), u, ("flagged", 2, 4, 0, 4), ("cache", 0, 4, 0), put_step(without(x_with(seqno=[b"2"]), 5)), *look,
+           ("flagged", 2, 4, 0, 0), ("flagged", 2, 4, 0, 5), u, x, *look, ("flagged", 2, 4, 0, 1), u, ("cache", 2, 4, 0), u, x, *look]
     for flags in (0, 1):
         yield [("flagged", 2, 4, 0, flags)] + [step for change, *_ in peers.SHORT_UNSIGNED_ROWS for step in (put_step(x_with(**change)), ("gossip", 1, b"t"))]
         yield [("flagged", 2, 64, 0, flags)] + [put_step(x_with(from_=[who], signature=[])) for who in SENDERS + HASHES + KEYLESS + NO_PEERS] \

@@ -147,7 +147,7 @@ def endings():
         yield "unsigned messages, flags %d" % flags, caches.records(
             [("flagged", 1, 0, 0, flags)] + [caches.put_step(caches.x_with(**change)) for change, *_ in rows]), \
             "1 cache ok\n" + "".join("%d put %s\n" % (n, row[1 + flags].replace("new", "stored")) for n, row in enumerate(rows, 2))
-    for flags in (2, 3, 256, 65535):
+    for flags in (4, 5, 256, 65535):
         yield "flags %d" % flags, caches.records([("flagged", 1, 1, 0, flags), ("shift",)]), "1 cache refused 40\nbad\n"
     u, x = caches.put_step(caches.U), caches.put_step(caches.X)
     yield "both forms", caches.records([("flagged", 1, 1, 0, 1), u, x, ("get", caches.NAME), ("flagged", 1, 1, 0, 1), x, u, ("get", caches.NAME)]), \

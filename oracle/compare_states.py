@@ -122,7 +122,7 @@ def endings():
             yield "a second body of %d bytes in %d" % (size, rest), begun + header(len(content), 26) + content + begun, ok + "bad\n"
     yield "the longest second body", begun + records([("serve_in", 1, 0, bytes(most - 9), b""), ("serve_in", 0, 0, b"", bytes(most - 9)), ("serve_in", 0, 0, b"", b"")]), \
         ok + "2 serve refused 10 65591\n3 serve refused 10 65591\n4 serve 0 0 0\n"
-    for flags in (2, 3, 255, 256, 257, 65535):
+    for flags in (4, 5, 7, 255, 256, 257, 65535):
         yield "flags %d" % flags, records([("flagged", 10, 4, 2, 4, flags), beat(5)]), "1 set refused 40\n2 beat ok\n"
     for call, (kind, _, rest) in states.FORM.items():
         least = states.RECORDS.least(call)

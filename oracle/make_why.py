@@ -130,8 +130,8 @@ SAVED_BEFORE = [
 TOLD = "1a2b12290a27%s01" % ID.hex()
 UNSIGNED = [
     (("gateway", holding(2, plain(U), mark=b"\x00")), "refused 42"),
-    (("gateway", holding(2, plain(U), mark=b"\x00", flags=2)), "refused 42"),
-    (("gateway", holding(2, plain(X), flags=2)), "refused 42"),
+    (("gateway", holding(2, plain(U), mark=b"\x00", flags=4)), "refused 42"),
+    (("gateway", holding(2, plain(X), flags=4)), "refused 42"),
     (("gateway", holding(2, plain(U), mark=b"\x00", flags=1)), "ok"),
     (why(3), "listed"),
     (ask(NAME), "0"),

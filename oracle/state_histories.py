@@ -132,7 +132,7 @@ def other_message(run, place, raw):
     old = run.cache.message_at(run.cache_store, place)
     steps = [hurt(CACHE_BYTE, byte, place * MAX_MESSAGE + n) for n, byte in enumerate(raw) if n >= len(old) or old[n] != byte]
     steps += [] if run.cache.len[place] == len(raw) else [hurt(LEN, len(raw), place)]
-    return steps + (other_topics(run, place, topic_places(raw)) if taken(raw, run.cache.flags) else [])
+    return steps + (other_topics(run, place, topic_places(raw, run.cache.flags)) if taken(raw, run.cache.flags) else [])
 
 
 def other_topics(run, place, kept):
@@ -364,7 +364,7 @@ def key_breaks(play):
                 yield "message not admissible", [hurt(CACHE_BYTE, value, place * MAX_MESSAGE + 2 + where)]
 
 
-UNKNOWN_FLAGS = (3, 5, 255, 257, 65535, 2**32 + 1, 2**63 + 1, TOP)  # each has the first flag, too
+UNKNOWN_FLAGS = (5, 7, 255, 257, 65535, 2**32 + 1, 2**63 + 1, TOP)  # each has the first flag, too
 
 
 def flag_breaks(play):
@@ -391,7 +391,7 @@ def flag_breaks(play):
 
 def unknown_flags(play):
     """(clause, steps) for a state without unsigned messages."""
-    for value in (2, 4, 256, 65534, 2**32, 2**63, TOP - 1, *UNKNOWN_FLAGS):
+    for value in (4, 6, 256, 65534, 2**32, 2**63, TOP - 1, *UNKNOWN_FLAGS):
         yield "flags", [hurt(FLAGS, value)]
 
 
@@ -915,7 +915,7 @@ def flag_table():
         (seen[0], "yes"), (seen[1], "yes"),
     ]
     # From outside; the seen part alone does not know the flags.
-    for value in (0, 2):
+    for value in (0, 4):
         yield hurt(FLAGS, value), "ok"
         yield from ((step, "refused 42") for step in each)
         yield from ((step, "yes") for step in seen)
@@ -926,7 +926,7 @@ def flag_table():
     # Off, and only the unsigned form in its seen store.
     yield from [(("flagged", 1000, 4, 2, 0, 1), "ok"), (admit(100, u), "new"), (offer, "0"), (hurt(FLAGS, 0), "ok"), (seen[0], "yes"), (seen[1], "no"),
                 (offer, "45 1a2b12290a27%s" % NAME.hex()), (hurt(FLAGS, 1), "ok"), (offer, "0")]
-    yield from ((("flagged", 1000, 4, 2, 4, value), "refused 40") for value in (2, 3, 256, 65535))
+    yield from ((("flagged", 1000, 4, 2, 4, value), "refused 40") for value in (4, 5, 256, 65535))
     yield offer, "0"
 
 
@@ -959,7 +959,7 @@ def flag_histories():
     # Flags among good settings and bad ones: refused settings change nothing.
     play = mixed()
     for settings in ((100, 4, 4, 3), (100, 0, 1, 0), (TOP, 256, 16, 64), (1, 257, 4, 3), (1, 4, 0, 3), (1, 4, 17, 3), (1, 4, 4, 65)):
-        for flags in (2, 3, 4, 255, 256, 257, 32768, 65535) + ((0, 1) if settings[0] == 1 else ()):
+        for flags in (4, 5, 7, 255, 256, 257, 32768, 65535) + ((0, 1, 2, 3) if settings[0] == 1 else ()):
             play.add(("flagged", *settings, flags), STATE, ("lookup", id_of(3)))
     yield play.add(*LOOSE_CALLS).steps
     for flags in (0, 1):
@@ -977,12 +977,12 @@ def flag_histories():
     # Flags that are set from outside, and set back, on each state to start from.
     for make in (mixed, loose, turned, empty, topical, keyed):
         play = make()
-        for value in (0, 1, 2, 3, 65535, 65536, 2**32, 2**32 + 1, TOP):
+        for value in (0, 1, 2, 3, 4, 5, 65535, 65536, 2**32, 2**32 + 1, 2**32 + 2, TOP):
             back = healing(play.run, [hurt(FLAGS, value)])
             play.add(hurt(FLAGS, value), *CALLS, *POOR, *WHYS[:3], *LOOSE_CALLS, *back, ("lookup", id_of(3)))
         yield play.add(*CALLS).steps
     # What is tested first: 40 and 41, then 42.
-    play = mixed().add(hurt(FLAGS, 2))
+    play = mixed().add(hurt(FLAGS, 4))
     for lent in ((515, 12288), (517, 12288), (516, 12287), (516, 12288)):
         play.add(("lend", *lent), *LOOSE_CALLS, *POOR)
     yield play.steps

@@ -240,7 +240,7 @@ def gateway_histories():
     # Maxima that the stores do not have, some whose products do not fit a number; a clock and counts that are others.
     steps = list(start)
     for what, value in [(MAX_IDS, value) for value in (0, 3, 5, 256, 257, 516 * pow(129, -1, 2**64) % 2**64, 2**63, TOP)] \
-            + [(MAX_HELD, value) for value in (0, 2, 4, 64, 65, 2**52, 2**52 + 3, 2**63 + 3, TOP)] + [(CLOCK, TOP), (COUNT, 0), (COUNT, 4)] + [(FLAGS, value) for value in (0, 1, 2, 3, 65535, TOP)]:
+            + [(MAX_HELD, value) for value in (0, 2, 4, 64, 65, 2**52, 2**52 + 3, 2**63 + 3, TOP)] + [(CLOCK, TOP), (COUNT, 0), (COUNT, 4)] + [(FLAGS, value) for value in (0, 1, 2, 3, 4, 5, 65535, TOP)]:
         play = state_histories.turned()
         whole = gateway_bytes(play.run)
         steps += [("gateway", states.node_bytes(play.add(state_histories.hurt(what, value)).run) + whole[NODE_SIZE:])] + few

@@ -13,7 +13,7 @@ from places import find_field, with_place
 from records import header
 
 KIND = {"decode": 1, "encode": 2, "sign": 3, "id": 4, "walk": 5, "varint": 6, "utf8": 7, "key": 8, "peer": 9, "write": 10, "tosign": 11}
-IN_DIALECT = {"decode": 21, "encode": 22, "sign": 23, "id": 24}
+IN_DIALECT = {"decode": 21, "encode": 22, "sign": 23, "id": 24, "walk": 25}
 PLACE = {"sign": 2, "id": 2, "walk": 8, "tosign": 2}  # bytes of the number before the body or the lists
 MAX_CONTENT = 65600
 MAX_BODY = 65536

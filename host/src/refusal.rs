@@ -155,7 +155,7 @@ pub enum Refusal {
 impl Refusal {
     /// All numbers of refusals that a call of this crate can meet.
     pub const NUMBERS: [u32; 32] =
-        [1, 2, 3, 4, 5, 6, 14, 15, 16, 7, 10, 11, 12, 13, 20, 21, 22, 23, 24, 25, 26, 27, 28, 29, 30, 31, 34, 35, 36, 40, 41, 42];
+        [1, 2, 3, 4, 5, 6, 7, 10, 11, 12, 13, 14, 15, 16, 20, 21, 22, 23, 24, 25, 26, 27, 28, 29, 30, 31, 34, 35, 36, 40, 41, 42];
 
     /// The refusal that a call answered. A number that no contract allows is a fault of the archive.
     pub(crate) fn from_call(number: u32, values: &[u64; VALUES]) -> Refusal {
