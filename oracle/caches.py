@@ -19,7 +19,7 @@ Everything random comes from one seeded `random.Random`.
 import groups
 import nodes
 import peers
-from bodies import BROKEN, MAX_RECORDS, PARTS, RPC, declining_body, many, other_field, random_message, refusal, tagged, within
+from bodies import BROKEN, MAX_RECORDS, PARTS, RPC, chain, declining_body, group, grouped_body, many, other_field, random_message, refusal, some_chain, some_group, tagged, within
 from oracle import hexed, parse_decode
 from peers import A, B, ECDSA, F, HASHES, KEYLESS, KEYS, LONGEST, NO_KEYS, NO_PEERS, RSA, SENDERS, identity, key_bytes, mismatch, peer_of
 from places import EDITION_ROWS, EDITIONS, GROUP_ROWS, GROUPS, MORE_GROUP_ROWS, MORE_ROWS, OF_GROUPS, ROWS, V1_1, V1_2, find, skips_groups, with_place
@@ -498,6 +498,21 @@ def loosened(r, body):
     return out
 
 
+def with_groups(r, body):
+    """A body with groups between its fields, and between those of its messages; now and then one that is spoilt, or as deep as may be."""
+    def among(pieces):
+        for piece in pieces:
+            for _ in range(r.choice((0, 0, 1, 1, 2))):
+                yield some_chain(r) if r.randrange(30) == 0 else some_group(r, r.choice((0, 1, 2)), r.randrange(40) == 0, PARTS)
+            yield piece
+    out = []
+    for field, wire, piece in cut(body):
+        if (field, wire) == (2, 2):
+            piece = tagged(2, b"".join(among(inner for *_, inner in cut(next(nodes.fields(piece))[3]))))
+        out.append(piece)
+    return b"".join(among(out))
+
+
 def some_put(r, who, topics):
     """A put: mostly a message that may be put, alone or among others; or one with faults, or another body."""
     parts = fields_of(r, who, topics)
@@ -652,8 +667,22 @@ def editioned(r, step):
     return ("put_in", r.choice(EDITIONS), step[1], body)
 
 
+def grouped_history(r):
+    """A history of the message cache whose settings mostly skip groups, and whose bodies mostly have some; many messages have no signature."""
+    steps = []
+    for step in flagged_history(r) if r.randrange(2) else cache_history(r):
+        if step[0] in ("cache", "flagged"):
+            step = ("flagged", *step[1:4], flags_of(step) | GROUPS * (r.randrange(6) > 0))
+        elif step[0] == "put" and len(step[2]) < MAX_BODY - 2000 and r.randrange(5):
+            step = (*step[:2], with_groups(r, step[2]) if r.randrange(12) else r.choice((step[2] + grouped_body(r), bytes.fromhex(r.choice(GROUP_ROWS + MORE_GROUP_ROWS)[0]) + step[2])))
+            step = step if len(step[2]) < MAX_CONTENT - 3 else ("shift",)
+        steps.append(step)
+    return steps
+
+
 def some_history(r):
-    steps = flagged_history(r) if r.randrange(4) == 0 else history(r)
+    how = r.randrange(8)
+    steps = flagged_history(r) if how < 2 else grouped_history(r) if how < 4 else history(r)
     return [editioned(r, step) for step in steps] if r.randrange(4) == 0 else steps
 
 
@@ -919,6 +948,35 @@ def edition_named(few=False):
     yield [("cache", 2, 4, 0), ("put_in", V1_2, 0, x), ("put_in", V1_1, 0, x), *look]
 
 
+# X with groups: behind its fields, before them, between them; with fields of X in them, others than its own; as deep as may be.
+GROUPED = [plain(X) + group(1), group(4, tagged(4, b"u")) + plain(X), plain(X[:2]) + group(1, tagged(1, B)) + plain(X[2:]),
+           plain(X) + group(536870911, plain(x_with(seqno=[b"9"], topic=[b"\xff"]))), group(2, group(2)) + plain(X) + group(3, tagged(3, b"9")), plain(X) + chain([5] * 32)]
+# The same with what is refused in the message itself, and with the number.
+SPOILT = [(plain(X) + b"\x0b", 16), (plain(X) + b"\x0c", 14), (b"\x0b" + plain(X) + b"\x14", 14), (plain(X) + chain([5] * 33), 15), (chain([5] * 33)[:-1] + plain(X), 15),
+          (plain(X) + b"\x0b\x04\x0c", 6), (plain(X) + b"\x0b\x0e\x0c", 5), (plain(X) + b"\x0b\x80", 1)]
+
+
+def group_named(few=False):
+    """Puts where groups are skipped and where they are refused: the scope's rows, alone and beside a message; messages with groups; both flags; about the longest message,
+    and but where there are to be few bytes about the longest body."""
+    x, u, look = put_step(X)[2], put_step(U)[2], looks([NAME], [b"t", b"u"], 1)
+    rows = [bytes.fromhex(text) for text, *_ in GROUP_ROWS + ([] if few else MORE_GROUP_ROWS)]
+    for flags in (0, GROUPS, nodes.MAX_FLAGS):
+        for edition in EDITIONS:
+            yield [("flagged", 2, 4, 0, flags)] + [("put_in", edition, 0, body) for row in rows for body in ((row,) if few else (row, row + x, x + row))] + [("put_in", edition, 0, x), *look]
+        for raw in GROUPED:
+            yield [("flagged", 2, 4, 0, flags), ("put", 0, tagged(2, raw)), *look, ("put", 0, x), *look]
+        yield [("flagged", 2, 4, 0, flags), *[("put", 0, tagged(2, raw)) for raw, _ in SPOILT], ("put", 0, tagged(2, plain(U) + group(5, tagged(5, bytes(SIGNATURE))))), *look]
+        yield [("flagged", 2, 4, 0, flags), ("put", 0, group(2, x) + u), ("put", 1, group(2, x) + x), ("put", 0, group(2, x)), ("put", 0, group(2, x) + x + group(1)), *look]
+        for size in (MAX_MESSAGE - 1, MAX_MESSAGE, MAX_MESSAGE + 1):
+            yield [("flagged", 2, 4, 0, flags), ("put", 0, tagged(2, plain(X) + group(1, tagged(2, bytes(size - 112 - 5))))), ("gossip", 1, b"t")]
+        for size in (MAX_BODY - 1, MAX_BODY, MAX_BODY + 1) if not few else ():
+            yield [("flagged", 2, 4, 0, flags), ("put", 0, x + b"\x0b" + b"\x08\x00" * ((size - 116) // 2) + b"\x08"[:size % 2] + b"\x0c"), *look]
+    # Settings anew: the mode is that of the last that were taken.
+    grouped = ("put", 0, tagged(2, GROUPED[0]))
+    yield [("cache", 2, 4, 0), grouped, ("flagged", 2, 4, 0, GROUPS), grouped, ("flagged", 2, 4, 0, 6), put_step(X), *look, ("cache", 0, 4, 0), *look, ("cache", 2, 4, 0), grouped, *look]
+
+
 def named():
     """The edges of every call, each refusal, and both parts beside each other."""
     yield from seen_named()
@@ -930,4 +988,4 @@ def named():
 
 
 def histories(r, count):
-    return then_random(r, count, (named(), topic_named(), placed_named(), flag_named(), edition_named()), some_history)
+    return then_random(r, count, (named(), topic_named(), placed_named(), flag_named(), edition_named(), group_named()), some_history)

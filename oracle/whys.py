@@ -218,7 +218,7 @@ def gateway_histories():
     bare = [caches.loose(body) for body in held]
     for play in (state_histories.turned(), state_histories.straight(), state_histories.topical(), state_histories.empty(), Play(("set", 1, 0, 1, 0)),
                  Play(("set", 1, 256, 16, 64)), Play(("set", TOP, 0, 16, 3), admit(TOP, held[0])), state_histories.mixed(), state_histories.loose(),
-                 Play(("flagged", 9, 2, 3, 2, 1), admit(1, bare[0], 0, 0))):
+                 Play(("flagged", 9, 2, 3, 2, 1), admit(1, bare[0], 0, 0)), state_histories.skipping()):
         whole = gateway_bytes(play.run)
         yield start + [("gateway", whole)] + looks + [admit(20, held[0]), beat(20), admit(TOP, held[1])] + looks + [("gateway", whole)] + looks + start + looks
         # Which messages need a signature, the saved node says; settings of a trace allow none without.
