@@ -461,12 +461,12 @@ def around(r):
     return within(r, {1: "sub", 3: "control"}, False)
 
 
-def cut(data):
+def cut(data, dialect=V1_1):
     """The fields of a body or of a message, as (number, wire type, its bytes), and last what cannot be read, as (0, 0, bytes)."""
     at = 0
     try:
-        for field, wire, place, content in nodes.fields(data):
-            end = place + len(content) if wire in (1, 5) else nodes.number_at(data, place)[1] + (len(content) if wire == 2 else 0)
+        for field, wire, place, content in nodes.fields(data, dialect):
+            end = place + len(content) if wire in (1, 3, 5) else nodes.number_at(data, place)[1] + (len(content) if wire == 2 else 0)
             yield field, wire, data[at:end]
             at = end
     except nodes.Refused:

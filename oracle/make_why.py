@@ -13,6 +13,7 @@ import sys
 
 import nodes
 import programs
+from bodies import group, tagged
 from caches import NAME, U, X, plain, x_with
 from compare_states import printed_by
 from oracle import HERE
@@ -147,12 +148,33 @@ UNSIGNED = [
     (admit(100, body_of(U)), "refused 25"),
 ]
 
+# A gateway that skips groups, and holds a message that has some, with a topic in one of them. Under other flags it is none; settings of a trace skip none.
+GROUPED = group(4, tagged(4, b"u")) + plain(X) + group(1)
+G = tagged(2, GROUPED)
+SKIPPING = [
+    (("gateway", holding(2, GROUPED)), "refused 42"),
+    (("gateway", holding(2, GROUPED, flags=1)), "refused 42"),
+    (("gateway", holding(2, GROUPED, flags=6)), "refused 42"),
+    (("gateway", holding(2, GROUPED, flags=2)), "ok"),
+    (why(3), "listed"),
+    (why(3, topic=b"u"), "topic"),
+    (serve(NAME), "121 %s 1 0" % G.hex()),
+    (admit(501, G), "dup"),
+    (admit(501, G[:-1] + b"\x14"), "refused 14"),
+    (admit(501, G + b"\x0b"), "refused 16"),
+    (("ask", b"\x0b" * 33), "refused 15"),
+    (("gateway", holding(2, flags=3)), "ok"),
+    (why(3), "listed"),
+    (("set", 1000, 4, 2, 4), "ok"),
+    (admit(100, G), "refused 5"),
+]
+
 # The id is longer than what follows.
 CUT = ("why", 1, 3, NAME[-2:])
 
 
 def main():
-    rows = STARTED + GIVEN + SAVED_BEFORE + UNSIGNED
+    rows = STARTED + GIVEN + SAVED_BEFORE + UNSIGNED + SKIPPING
     data = RECORDS.records([step for step, _ in rows] + [CUT])
     lines = ["%d %s %s" % (n, step[0], answer) for n, (step, answer) in enumerate(rows, 1)] + ["bad"]
     if len(sys.argv) > 1:

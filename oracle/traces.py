@@ -90,7 +90,7 @@ def grouped(r, step):
     if step[0] not in ("admit", "ask", "serve") or r.randrange(4) == 0:
         return step
     body = caches.with_groups(r, step[-1])
-    return (*step[:-1], body) if len(body) <= MAX_CONTENT - 11 else step
+    return (*step[:-1], body) if len(body) <= ADMIT_BODY else step
 
 
 def named_by(pool):
