@@ -1554,7 +1554,8 @@ def with_flags(r, step):
 
 def grouped(r, play, step):
     """A body with groups, mostly where they are skipped; other steps as they are."""
-    if step[0] not in EDITIONED or len(step[-1]) > ROOM - 2000 or r.randrange(3 if skips_groups(play.run.cache.flags) else 30):
+    often = r.randrange(30) < (20 if skips_groups(play.run.cache.flags) else 1)
+    if step[0] not in EDITIONED or len(step[-1]) > ROOM - 2000 or not often:
         return step
     how = r.randrange(20)
     body = with_groups(r, step[-1]) if how > 1 else step[-1] + grouped_body(r) if how else bytes.fromhex(r.choice(GROUP_ROWS + MORE_GROUP_ROWS)[0]) + step[-1]
@@ -1574,7 +1575,7 @@ def history(r):
     settings = list(steps[0])
     settings[4] = r.choice((settings[4], settings[4], 16, 63, 64))
     if flagged:
-        settings[5] = r.choice((0, 1, 1, 2, 2, 3))
+        settings[5] = r.choice((0, 1, 1, 1, 2, 3, 3))
     pool = [(A, b"b"), (HASHED, b"c")] + names
     play = Play(tuple(settings))
 
