@@ -1,4 +1,4 @@
--- Where the flags allow no unsigned message, a call brings what it brought before there were flags.
+-- Where the flags allow no unsigned message, a call brings what it brought before there were flags, in their mode.
 use Prim.Native.Nat.{ℕ}
 use mathlib.Core.Path.{_≡_, refl}
 use mathlib.Core.Bool.{Bool, true, false, cond}
@@ -51,7 +51,8 @@ module _ (flags : ℕ) (off : allowsUnsigned flags ≡ false) where
   pub brought-off : (c : Call) → brought flags c ≡ broughtWas (modeOf flags) c
   unfolding brought broughtWas
   brought-off (admit ed body i word at) =
-      accepted-off word (acceptOf (spoken (modeOf flags) ed) body) (standing flags word body (messageAt (modeOf flags) body i))
+      accepted-off word (acceptOf (spoken (modeOf flags) ed) body)
+      (standing flags word body (messageAt (modeOf flags) body i))
       (standingWas body (messageAt (modeOf flags) body i)) (standing-off word body (messageAt (modeOf flags) body i))
   brought-off (heartbeat at) = refl
   brought-off (advertise topic windows out) = refl
