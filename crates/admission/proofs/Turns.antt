@@ -9,6 +9,8 @@ use lib.ListN.{length, take, drop, getD, set, length-append, length-drop, length
 use lib.Seq.{sets, take-all, drop-cons, set-out}
 use lib.Dec.{ltb, eqb}
 use borrow.Author.Tests.{ltb-true, eqb-true, eq-eqb, ne-eqb, lt-ltb, le-ltb}
+use Rattle.basis.specs.declared.Mode.{Mode}
+use Rattle.basis.specs.Dialect.{modeOf}
 use Rattle.basis.specs.Cases.{either}
 use Rattle.protobuf.specs.declared.Field.{Field}
 use Rattle.protobuf.specs.declared.WireError.{WireError}
@@ -22,6 +24,7 @@ use Rattle.rows.specs.RowsLaws.{length-tab, getD-tab}
 use Rattle.rows.specs.Ids.{sameBytes}
 use Rattle.rows.specs.IdsLaws.{same-append, same-length}
 use Rattle.schema.specs.declared.Kind.the-variants as kind
+use Rattle.schema.specs.declared.Counted.{Counted}
 use Rattle.schema.specs.declared.Counted.the-variants as count
 use Rattle.schema.specs.Count.{counted}
 use Rattle.schema.specs.declared.Slots.{Slots}
@@ -49,28 +52,28 @@ use Rattle.admission.specs.AdmissionLaws.{sender-is}
 use Rattle.admission.specs.TopicLaws.{gives-few, same-spans-equal, length-spans, spans-put}
 
 -- ---- the topics from a place on
-pub topics-on : (p : List ℕ) (at : ℕ) (f : Field) → step.At f ≡ readField p at → topicsAlong p (walkAt p at) ≡ cond (isBytes 4 f) (valueIn p f ∷
-    topicsAlong p (walkAt p (f .next))) (topicsAlong p (walkAt p (f .next)))
-topics-on p at f e = ap (topicsAlong p) (walk-on p at (step.At f) e)
+pub topics-on : (mode : Mode) (p : List ℕ) (at : ℕ) (f : Field) → step.At f ≡ readField mode p at → topicsAlong p (walkAt mode p at) ≡ cond (isBytes 4 f) (valueIn p f ∷
+    topicsAlong p (walkAt mode p (f .next))) (topicsAlong p (walkAt mode p (f .next)))
+topics-on mode p at f e = ap (topicsAlong p) (walk-on mode p at (step.At f) e)
 
-pub topics-end : (p : List ℕ) (at : ℕ) → step.End ≡ readField p at → topicsAlong p (walkAt p at) ≡ []
-topics-end p at e = ap (topicsAlong p) (walk-on p at step.End e)
+pub topics-end : (mode : Mode) (p : List ℕ) (at : ℕ) → step.End ≡ readField mode p at → topicsAlong p (walkAt mode p at) ≡ []
+topics-end mode p at e = ap (topicsAlong p) (walk-on mode p at step.End e)
 
-pub topics-refused : (p : List ℕ) (at : ℕ) (why : WireError) → step.Refused why ≡ readField p at → topicsAlong p (walkAt p at) ≡ []
-topics-refused p at why e = ap (topicsAlong p) (walk-on p at (step.Refused why) e)
+pub topics-refused : (mode : Mode) (p : List ℕ) (at : ℕ) (why : WireError) → step.Refused why ≡ readField mode p at → topicsAlong p (walkAt mode p at) ≡ []
+topics-refused mode p at why e = ap (topicsAlong p) (walk-on mode p at (step.Refused why) e)
 
-pub topics-past : (p : List ℕ) (at : ℕ) → length p ≤ at → topicsAlong p (walkAt p at) ≡ []
-topics-past p at h = ap (topicsAlong p) (walk-end p at h)
+pub topics-past : (mode : Mode) (p : List ℕ) (at : ℕ) → length p ≤ at → topicsAlong p (walkAt mode p at) ≡ []
+topics-past mode p at h = ap (topicsAlong p) (walk-end mode p at h)
 
 -- ---- their number, and the first that is too long
 count-step : (t : Bool) (v : List ℕ) (l : List (List ℕ)) (n m : ℕ) → m ≡ cond t (n + 1) n → n + length (cond t (v ∷ l) l) ≡ m + length l
 count-step true v l n m h = omega arith
 count-step false v l n m h = omega arith
 
-pub count-more : (p : List ℕ) (at n m : ℕ) (f : Field) → step.At f ≡ readField p at → m ≡ cond (isBytes 4 f) (n + 1) n → n + length (topicsAlong p
-    (walkAt p at)) ≡ m + length (topicsAlong p (walkAt p (f .next)))
-count-more p at n m f e h = ap (λ (l : List (List ℕ)). n + length l) (topics-on p at f e) ∙ count-step (isBytes 4 f) (valueIn p f) (topicsAlong p
-    (walkAt p (f .next))) n m h
+pub count-more : (mode : Mode) (p : List ℕ) (at n m : ℕ) (f : Field) → step.At f ≡ readField mode p at → m ≡ cond (isBytes 4 f) (n + 1) n → n + length (topicsAlong p
+    (walkAt mode p at)) ≡ m + length (topicsAlong p (walkAt mode p (f .next)))
+count-more mode p at n m f e h = ap (λ (l : List (List ℕ)). n + length l) (topics-on mode p at f e) ∙ count-step (isBytes 4 f) (valueIn p f) (topicsAlong p
+    (walkAt mode p (f .next))) n m h
 
 -- one more, or none
 -- the first long topic, where `long` is that of the topics passed
@@ -88,14 +91,14 @@ long-step true v l long next h =
     (λ u. let k = simp (z, u) at h in simp (z, u, k)))
     (λ z. let k = simp z at h in simp (z, k))
 
-pub long-more : (p : List ℕ) (at long next : ℕ) (f : Field) → step.At f ≡ readField p at → Stands p at f → next ≡ longAfter f (f .next - f .start)
+pub long-more : (mode : Mode) (p : List ℕ) (at long next : ℕ) (f : Field) → step.At f ≡ readField mode p at → Stands p at f → next ≡ longAfter f (f .next - f .start)
     long
-    → longFrom long (topicsAlong p (walkAt p at)) ≡ longFrom next (topicsAlong p (walkAt p (f .next)))
+    → longFrom long (topicsAlong p (walkAt mode p at)) ≡ longFrom next (topicsAlong p (walkAt mode p (f .next)))
 unfolding longAfter
-long-more p at long next f e st h =
+long-more mode p at long next f e st h =
     let n = between-length p (f .start) (f .next) (st .within) in
-    ap (longFrom long) (topics-on p at f e)
-    ∙ long-step (isBytes 4 f) (valueIn p f) (topicsAlong p (walkAt p (f .next))) long next (h ∙ ap (λ (k : ℕ). longAfter f k long) (sym n))
+    ap (longFrom long) (topics-on mode p at f e)
+    ∙ long-step (isBytes 4 f) (valueIn p f) (topicsAlong p (walkAt mode p (f .next))) long next (h ∙ ap (λ (k : ℕ). longAfter f k long) (sym n))
 
 long-none : (long : ℕ) → longFrom long [] ≡ long
 unfolding firstLong
@@ -105,33 +108,33 @@ long-none long = either (eqb long 0) (λ t. simp t (sym (eqb-true long 0 t))) (�
 abbrev topicsMade : ℕ → ℕ → Topics
 topicsMade n long = record { count = n; long = long }
 
-pub topics-done : (p : List ℕ) (n long : ℕ) (l : List (List ℕ)) → l ≡ [] → length (topicsOf p) ≡ n + length l → firstLong (topicsOf p) ≡ longFrom long
-    l → topicsMade n long ≡ topicsIn p
-topics-done p n long l e h k =
+pub topics-done : (mode : Mode) (p : List ℕ) (n long : ℕ) (l : List (List ℕ)) → l ≡ [] → length (topicsOf mode p) ≡ n + length l → firstLong (topicsOf mode p) ≡ longFrom long
+    l → topicsMade n long ≡ topicsIn mode p
+topics-done mode p n long l e h k =
     let z = ap length e in
     ap₂ topicsMade (omega arith) (sym (k ∙ ap (longFrom long) e ∙ long-none long))
 
 -- each of both
-module _ {t : Topics} (p : List ℕ) (e : t ≡ topicsIn p) where
-  pub counts : t .count ≡ length (topicsOf p)
+module _ (mode : Mode) {t : Topics} (p : List ℕ) (e : t ≡ topicsIn mode p) where
+  pub counts : t .count ≡ length (topicsOf mode p)
   counts = ap (λ (x : Topics). x .count) e
 
-  pub longs : t .long ≡ firstLong (topicsOf p)
+  pub longs : t .long ≡ firstLong (topicsOf mode p)
   longs = ap (λ (x : Topics). x .long) e
 
 -- ---- their places
-places-on : (p : List ℕ) (at : ℕ) (f : Field) → step.At f ≡ readField p at
-    → placesAlong (walkAt p at) ≡ cond (isBytes 4 f) (spanOf f ∷ placesAlong (walkAt p (f .next))) (placesAlong (walkAt p (f .next)))
-places-on p at f e = ap placesAlong (walk-on p at (step.At f) e)
+places-on : (mode : Mode) (p : List ℕ) (at : ℕ) (f : Field) → step.At f ≡ readField mode p at
+    → placesAlong (walkAt mode p at) ≡ cond (isBytes 4 f) (spanOf f ∷ placesAlong (walkAt mode p (f .next))) (placesAlong (walkAt mode p (f .next)))
+places-on mode p at f e = ap placesAlong (walk-on mode p at (step.At f) e)
 
-pub places-end : (p : List ℕ) (at : ℕ) → step.End ≡ readField p at → placesAlong (walkAt p at) ≡ []
-places-end p at e = ap placesAlong (walk-on p at step.End e)
+pub places-end : (mode : Mode) (p : List ℕ) (at : ℕ) → step.End ≡ readField mode p at → placesAlong (walkAt mode p at) ≡ []
+places-end mode p at e = ap placesAlong (walk-on mode p at step.End e)
 
-pub places-refused : (p : List ℕ) (at : ℕ) (why : WireError) → step.Refused why ≡ readField p at → placesAlong (walkAt p at) ≡ []
-places-refused p at why e = ap placesAlong (walk-on p at (step.Refused why) e)
+pub places-refused : (mode : Mode) (p : List ℕ) (at : ℕ) (why : WireError) → step.Refused why ≡ readField mode p at → placesAlong (walkAt mode p at) ≡ []
+places-refused mode p at why e = ap placesAlong (walk-on mode p at (step.Refused why) e)
 
-pub places-past : (p : List ℕ) (at : ℕ) → length p ≤ at → placesAlong (walkAt p at) ≡ []
-places-past p at h = ap placesAlong (walk-end p at h)
+pub places-past : (mode : Mode) (p : List ℕ) (at : ℕ) → length p ≤ at → placesAlong (walkAt mode p at) ≡ []
+places-past mode p at h = ap placesAlong (walk-end mode p at h)
 
 -- a number of each place is written, in the place's own order
 module _ (of : Span → ℕ) where
@@ -140,12 +143,12 @@ module _ (of : Span → ℕ) where
   note-step true s l out next n m h k = rw (h, k, add-one n)
   note-step false s l out next n m h k = rw (h, k)
 
-  pub note-more : (p : List ℕ) (at : ℕ) (f : Field) (there : Bool) (out next : List ℕ) (n m : ℕ) → step.At f ≡ readField p at → there ≡ isBytes 4 f
-      → next ≡ cond there (set out n (of (spanOf f))) out → m ≡ cond (isBytes 4 f) (n + 1) n → sets out n (map of (placesAlong (walkAt p at))) ≡ sets
-      next m (map of (placesAlong (walkAt p (f .next))))
-  note-more p at f there out next n m e b h k =
-      ap (λ (l : List Span). sets out n (map of l)) (places-on p at f e)
-      ∙ note-step (isBytes 4 f) (spanOf f) (placesAlong (walkAt p (f .next))) out next n m (rw b at h) k
+  pub note-more : (mode : Mode) (p : List ℕ) (at : ℕ) (f : Field) (there : Bool) (out next : List ℕ) (n m : ℕ) → step.At f ≡ readField mode p at → there ≡ isBytes 4 f
+      → next ≡ cond there (set out n (of (spanOf f))) out → m ≡ cond (isBytes 4 f) (n + 1) n → sets out n (map of (placesAlong (walkAt mode p at))) ≡ sets
+      next m (map of (placesAlong (walkAt mode p (f .next))))
+  note-more mode p at f there out next n m e b h k =
+      ap (λ (l : List Span). sets out n (map of l)) (places-on mode p at f e)
+      ∙ note-step (isBytes 4 f) (spanOf f) (placesAlong (walkAt mode p (f .next))) out next n m (rw b at h) k
 
   pub note-done : (out all : List ℕ) (n : ℕ) (l : List Span) → l ≡ [] → sets out n (map of l) ≡ all → out ≡ all
   note-done out all n l e h = sym (ap (λ (r : List Span). sets out n (map of r)) e) ∙ h
@@ -164,11 +167,11 @@ pub note-length : (there : Bool) (l next : List ℕ) (i v n : ℕ) → next ≡ 
 note-length there l next i v n h e = either there (λ t. rw (simp t at h, length-set l i v) e) (λ t. rw (simp t at h) e)
 
 -- found again in two lists of four
-pub spans-found : (p x y a b : List ℕ) (n k : ℕ) → k ≡ length (topicPlaces p) → k ≡ n → n ≤ 4 → length a ≡ 4 → length b ≡ 4
-    → x ≡ sets a 0 (startsOf (topicPlaces p)) → y ≡ sets b 0 (sizesOf (topicPlaces p)) → spansIn x y n ≡ topicPlaces p
-spans-found p x y a b n k c e h l m f g =
-    let q : n ≡ length (topicPlaces p) = sym e ∙ c in
-    rw (f, g, q) (spans-put a b 0 (topicPlaces p) (omega arith) (omega arith))
+pub spans-found : (mode : Mode) (p x y a b : List ℕ) (n k : ℕ) → k ≡ length (topicPlaces mode p) → k ≡ n → n ≤ 4 → length a ≡ 4 → length b ≡ 4
+    → x ≡ sets a 0 (startsOf (topicPlaces mode p)) → y ≡ sets b 0 (sizesOf (topicPlaces mode p)) → spansIn x y n ≡ topicPlaces mode p
+spans-found mode p x y a b n k c e h l m f g =
+    let q : n ≡ length (topicPlaces mode p) = sym e ∙ c in
+    rw (f, g, q) (spans-put a b 0 (topicPlaces mode p) (omega arith) (omega arith))
 
 -- ---- kept places are compared
 module _ (a b c d : List ℕ) (n i : ℕ) where
@@ -205,72 +208,77 @@ module _ (a b c d : List ℕ) (n i : ℕ) where
     unfolding sameSpans
     spans-all h = rw (spans-end a b h, spans-end c d h) at inv
 
+-- counted in the mode of the flags
+pub read-in : {mode : Mode} (flags : ℕ) (p : List ℕ) {r : Counted} → mode ≡ modeOf flags → r ≡ counted mode kind.RawMessage p
+    → r ≡ counted (modeOf flags) kind.RawMessage p
+read-in flags p e h = h ∙ ap (λ (mode : Mode). counted mode kind.RawMessage p) e
+
 -- ---- a message with its id and its kept places
 module _ (flags : ℕ) (p i : List ℕ) (ts : List Span) where
   pub kept-not : false ≡ givesId flags p i → false ≡ keptWith flags p i ts
   unfolding keptWith
   kept-not h = rw (← h)
 
-  pub kept-other : sameSpans (topicPlaces p) ts ≡ false → false ≡ keptWith flags p i ts
+  pub kept-other : sameSpans (topicPlaces (modeOf flags) p) ts ≡ false → false ≡ keptWith flags p i ts
   unfolding keptWith
   kept-other h = either (givesId flags p i) (λ t. rw (t, h)) (λ t. rw t)
 
-  pub kept-count : (length (topicPlaces p) ≡ length ts → ⊥) → false ≡ keptWith flags p i ts
-  kept-count h = kept-other (either (sameSpans (topicPlaces p) ts) (λ t. absurd (h (ap length (same-spans-equal (topicPlaces p) ts t)))) (λ t. t))
+  pub kept-count : (length (topicPlaces (modeOf flags) p) ≡ length ts → ⊥) → false ≡ keptWith flags p i ts
+  kept-count h = kept-other (either (sameSpans (topicPlaces (modeOf flags) p) ts) (λ t. absurd (h (ap length (same-spans-equal (topicPlaces (modeOf flags) p) ts t)))) (λ t. t))
 
-  pub kept-many : 4 < length (topicPlaces p) → false ≡ keptWith flags p i ts
+  pub kept-many : 4 < length (topicPlaces (modeOf flags) p) → false ≡ keptWith flags p i ts
   kept-many h = kept-not (either (givesId flags p i) (λ t. let k = gives-few flags p i t in absurd (omega arith)) (λ t. sym t))
 
-  pub kept-names : (n : ℕ) (r : Bool) → counted kind.RawMessage p ≡ count.Records n → sameSpans (topicPlaces p) ts ≡ true → r ≡ idGiven p i
+  pub kept-names : (n : ℕ) (r : Bool) → counted (modeOf flags) kind.RawMessage p ≡ count.Records n → sameSpans (topicPlaces (modeOf flags) p) ts ≡ true → r ≡ idGiven p i
       (admissionOf flags p true) → r ≡ keptWith flags p i ts
   unfolding keptWith givesId
   kept-names n r h s g = rw (h, s) (g ∙ sym (and-true (idGiven p i (admissionOf flags p true))))
 
 -- ---- 28, 29, 30
-module _ (p : List ℕ) (r : Admission) (n l : ℕ) (hn : n ≡ length (topicsOf p)) (hl : l ≡ firstLong (topicsOf p)) where
-  pub limit-none : n ≡ 0 → admission.Unfit (TopicCount n) ≡ onLimits p r
+module _ (mode : Mode) (p : List ℕ) (r : Admission) (n l : ℕ) (hn : n ≡ length (topicsOf mode p)) (hl : l ≡ firstLong (topicsOf mode p)) where
+  pub limit-none : n ≡ 0 → admission.Unfit (TopicCount n) ≡ onLimits mode p r
   unfolding onLimits
-  limit-none h = simp (hn, eq-eqb (length (topicsOf p)) 0 (sym hn ∙ h))
+  limit-none h = simp (hn, eq-eqb (length (topicsOf mode p)) 0 (sym hn ∙ h))
 
-  pub limit-many : (n ≡ 0 → ⊥) → 4 < n → admission.Unfit (TopicCount n) ≡ onLimits p r
+  pub limit-many : (n ≡ 0 → ⊥) → 4 < n → admission.Unfit (TopicCount n) ≡ onLimits mode p r
   unfolding onLimits
-  limit-many z h = simp (hn, ne-eqb (length (topicsOf p)) 0 (λ q. z (hn ∙ q)), lt-ltb 4 (length (topicsOf p)) (omega arith))
+  limit-many z h = simp (hn, ne-eqb (length (topicsOf mode p)) 0 (λ q. z (hn ∙ q)), lt-ltb 4 (length (topicsOf mode p)) (omega arith))
 
-  pub limit-long : (n ≡ 0 → ⊥) → n ≤ 4 → (l ≡ 0 → ⊥) → admission.Unfit (TopicTooLong l) ≡ onLimits p r
+  pub limit-long : (n ≡ 0 → ⊥) → n ≤ 4 → (l ≡ 0 → ⊥) → admission.Unfit (TopicTooLong l) ≡ onLimits mode p r
   unfolding onLimits
   limit-long z h k =
       simp (
         hl,
-        ne-eqb (length (topicsOf p)) 0 (λ q. z (hn ∙ q)),
-        le-ltb 4 (length (topicsOf p)) (omega arith),
-        ne-eqb (firstLong (topicsOf p)) 0 (λ
+        ne-eqb (length (topicsOf mode p)) 0 (λ q. z (hn ∙ q)),
+        le-ltb 4 (length (topicsOf mode p)) (omega arith),
+        ne-eqb (firstLong (topicsOf mode p)) 0 (λ
             q. k (hl ∙ q)),
       )
 
-  pub limit-size : (n ≡ 0 → ⊥) → n ≤ 4 → l ≡ 0 → 4096 < length p → admission.Unfit (MessageTooLong (length p)) ≡ onLimits p r
+  pub limit-size : (n ≡ 0 → ⊥) → n ≤ 4 → l ≡ 0 → 4096 < length p → admission.Unfit (MessageTooLong (length p)) ≡ onLimits mode p r
   unfolding onLimits
   limit-size z h k m =
       simp (
-        ne-eqb (length (topicsOf p)) 0 (λ q. z (hn ∙ q)),
-        le-ltb 4 (length (topicsOf p)) (omega arith),
-        eq-eqb (firstLong (topicsOf p)) 0 (sym hl
+        ne-eqb (length (topicsOf mode p)) 0 (λ q. z (hn ∙ q)),
+        le-ltb 4 (length (topicsOf mode p)) (omega arith),
+        eq-eqb (firstLong (topicsOf mode p)) 0 (sym hl
             ∙ k),
         lt-ltb 4096 (length p) m,
       )
 
-  pub limit-fit : (n ≡ 0 → ⊥) → n ≤ 4 → l ≡ 0 → length p ≤ 4096 → r ≡ onLimits p r
+  pub limit-fit : (n ≡ 0 → ⊥) → n ≤ 4 → l ≡ 0 → length p ≤ 4096 → r ≡ onLimits mode p r
   unfolding onLimits
   limit-fit z h k m =
       simp (
-        ne-eqb (length (topicsOf p)) 0 (λ q. z (hn ∙ q)),
-        le-ltb 4 (length (topicsOf p)) (omega arith),
-        eq-eqb (firstLong (topicsOf p)) 0 (sym hl
+        ne-eqb (length (topicsOf mode p)) 0 (λ q. z (hn ∙ q)),
+        le-ltb 4 (length (topicsOf mode p)) (omega arith),
+        eq-eqb (firstLong (topicsOf mode p)) 0 (sym hl
             ∙ k),
         le-ltb 4096 (length p) m,
       )
 
 -- ---- 21, 22, 23
-pub admit-on : (flags : ℕ) (p : List ℕ) (word : Bool) (t : Slots) (i j : MessageId) → t ≡ slotsOf kind.RawMessage p
+pub admit-on : (flags : ℕ) (p : List ℕ) (word : Bool) (t : Slots) (i j : MessageId) → t ≡ slotsOf (modeOf flags) kind.RawMessage p
     → i ≡ onFrom (t .first) (t .third) → i ≡ j → onId flags p word j ≡ admissionOf flags p word
 unfolding admissionOf idParts
 admit-on flags p word t i j h k e = ap (onId flags p word) (sym e ∙ k ∙ ap (λ (x : Slots). onFrom (x .first) (x .third)) h)
@@ -346,9 +354,9 @@ module _ (p s : List ℕ) (q : Place) (x y : ℕ) (r : Admission) (k : Bool) (h 
     there-on a t u g = g ∙ sym (ap (λ (z : Place). onKey p s z r) h ∙ rw (sym e ∙ t, sym f ∙ u))
 
 -- ---- the slots that were found
-module _ (p : List ℕ) (t : Slots) (h : t ≡ slotsOf kind.RawMessage p) where
+module _ (mode : Mode) (p : List ℕ) (t : Slots) (h : t ≡ slotsOf mode kind.RawMessage p) where
   slots-good : SlotsInside p t
-  slots-good = subst (SlotsInside p) (sym h) (slots-inside kind.RawMessage p)
+  slots-good = subst (SlotsInside p) (sym h) (slots-inside mode kind.RawMessage p)
 
   pub first-inside : PlaceInside p (t .first)
   first-inside = slots-good .first
@@ -356,26 +364,26 @@ module _ (p : List ℕ) (t : Slots) (h : t ≡ slotsOf kind.RawMessage p) where
   pub fifth-inside : PlaceInside p (t .fifth)
   fifth-inside = slots-good .fifth
 
-  pub parts-of : (i : MessageId) (a e b f : ℕ) → i ≡ onFrom (t .first) (t .third) → i ≡ id.Parts a e b f → idParts p ≡ id.Parts a e b f
+  pub parts-of : (i : MessageId) (a e b f : ℕ) → i ≡ onFrom (t .first) (t .third) → i ≡ id.Parts a e b f → idParts mode p ≡ id.Parts a e b f
   unfolding idParts
   parts-of i a e b f k g = sym (k ∙ ap (λ (x : Slots). onFrom (x .first) (x .third)) h) ∙ g
 
   -- the sender is tested, and what follows
   module _ (r : Admission) (k : Bool) (e : k ≡ isPeerId (partAt p (t .first))) where
-    sender-tested : k ≡ isPeerId (senderOf p)
+    sender-tested : k ≡ isPeerId (senderOf mode p)
     sender-tested = e ∙ ap (λ (x : Slots). isPeerId (partAt p (x .first))) h
 
-    pub peer-on : (a : Admission) → k ≡ true → a ≡ r → a ≡ onPeer (senderOf p) r
+    pub peer-on : (a : Admission) → k ≡ true → a ≡ r → a ≡ onPeer (senderOf mode p) r
     peer-on a u g = g ∙ sym (rw (sym sender-tested ∙ u))
 
-    pub peer-not : k ≡ false → admission.Unfit NotPeerId ≡ onPeer (senderOf p) r
+    pub peer-not : k ≡ false → admission.Unfit NotPeerId ≡ onPeer (senderOf mode p) r
     peer-not u = sym (rw (sym sender-tested ∙ u))
 
   -- the rest of a message that has an id
-  pub signed-on : (u v : Bool) (r l a : Admission) (x y z w : ℕ) → idParts p ≡ id.Parts x y z w → u ≡ v
+  pub signed-on : (u v : Bool) (r l a : Admission) (x y z w : ℕ) → idParts mode p ≡ id.Parts x y z w → u ≡ v
       → a ≡ onSignature u (t .fourth) (t .fifth) (onKey p (between p x y) (t .fifth) r) l
-      → a ≡ onSignature v (slotsOf kind.RawMessage p .fourth) (slotsOf kind.RawMessage p .fifth) (onKey p (senderOf p) (slotsOf kind.RawMessage p .fifth) r) l
+      → a ≡ onSignature v (slotsOf mode kind.RawMessage p .fourth) (slotsOf mode kind.RawMessage p .fifth) (onKey p (senderOf mode p) (slotsOf mode kind.RawMessage p .fifth) r) l
   signed-on u v r l a x y z w g o e =
       e ∙ ap₂ (λ (b : Bool) (s : Slots). onSignature b (s .fourth) (s .fifth) (onKey p (between p x y) (s .fifth) r) l) o h
-      ∙ ap (λ (s : List ℕ). onSignature v (slotsOf kind.RawMessage p .fourth) (slotsOf kind.RawMessage p .fifth) (onKey p s (slotsOf kind.RawMessage p .fifth) r) l)
-      (sym (sender-is p x y z w g))
+      ∙ ap (λ (s : List ℕ). onSignature v (slotsOf mode kind.RawMessage p .fourth) (slotsOf mode kind.RawMessage p .fifth) (onKey p s (slotsOf mode kind.RawMessage p .fifth) r) l)
+      (sym (sender-is mode p x y z w g))

@@ -180,8 +180,10 @@ onId flags p word (id.InvalidFrom n) = admission.Unfit (InvalidFrom n)
 onId flags p word id.InvalidSeqno = onPeer (senderOf (modeOf flags) p) (admission.Unfit InvalidSeqno)
 onId flags p word (id.Parts a e b f) =
     onPeer (senderOf (modeOf flags) p)
-    (onSignature (allowsUnsigned flags) (slotsOf (modeOf flags) kind.RawMessage p .fourth) (slotsOf (modeOf flags) kind.RawMessage p .fifth)
-    (onKey p (senderOf (modeOf flags) p) (slotsOf (modeOf flags) kind.RawMessage p .fifth) (onWord word (onLimits (modeOf flags) p (admission.Fit a e b f))))
+    (onSignature (allowsUnsigned flags) (slotsOf (modeOf flags) kind.RawMessage p .fourth)
+    (slotsOf (modeOf flags) kind.RawMessage p .fifth)
+    (onKey p (senderOf (modeOf flags) p) (slotsOf (modeOf flags) kind.RawMessage p .fifth)
+    (onWord word (onLimits (modeOf flags) p (admission.Fit a e b f))))
     (onLimits (modeOf flags) p (admission.Fit a e b f)))
 
 unfoldable pub admissionOf : ℕ → List ℕ → Bool → Admission

@@ -8,6 +8,8 @@ use native.Mathlib.Omega.{arith}
 use lib.ListN.{length}
 use lib.Dec.{ltb, eqb}
 use borrow.Author.Tests.{ltb-true, ltb-false, eqb-true, eqb-false}
+use Rattle.basis.specs.declared.Mode.{Mode}
+use Rattle.basis.specs.Dialect.{modeOf}
 use Rattle.basis.specs.declared.Dialect.{Dialect}
 use Rattle.basis.specs.Cases.{either, clash}
 use Rattle.protobuf.specs.declared.Checked.the-variants.{Fine}
@@ -79,26 +81,28 @@ pub data Stood (unsigned : Bool) (p s : List ℕ) (word : Bool) : Place → Plac
 
 -- each test behind the id's
 pub record Passes (flags : ℕ) (p : List ℕ) (word : Bool) : Type 0 where
-  pub peer : isPeerId (senderOf p) ≡ true
-  pub stood : Stood (allowsUnsigned flags) p (senderOf p) word (slotsOf kind.RawMessage p .fourth)
-      (slotsOf kind.RawMessage p .fifth)
-  pub limits : Limits p
+  pub peer : isPeerId (senderOf (modeOf flags) p) ≡ true
+  pub stood : Stood (allowsUnsigned flags) p (senderOf (modeOf flags) p) word
+      (slotsOf (modeOf flags) kind.RawMessage p .fourth)
+      (slotsOf (modeOf flags) kind.RawMessage p .fifth)
+  pub limits : Limits (modeOf flags) p
 
 module _ (a e b f : ℕ) where
-  of-limits : (p : List ℕ) (r : Admission) → onLimits p r ≡ admission.Fit a e b f → (r ≡ admission.Fit a e b f)
-      × Limits p
+  of-limits : (mode : Mode) (p : List ℕ) (r : Admission) → onLimits mode p r ≡ admission.Fit a e b f
+      → (r ≡ admission.Fit a e b f)
+      × Limits mode p
   unfolding onLimits
-  of-limits p r h =
-      either (eqb (length (topicsOf p)) 0) (λ t. clash (let k = simp t at h in cc))
-      (λ t. either (ltb 4 (length (topicsOf p))) (λ u. clash (let k = simp (t, u) at h in cc))
-      (λ u. either (eqb (firstLong (topicsOf p)) 0)
+  of-limits mode p r h =
+      either (eqb (length (topicsOf mode p)) 0) (λ t. clash (let k = simp t at h in cc))
+      (λ t. either (ltb 4 (length (topicsOf mode p))) (λ u. clash (let k = simp (t, u) at h in cc))
+      (λ u. either (eqb (firstLong (topicsOf mode p)) 0)
       (λ v. either (ltb 4096 (length p)) (λ w. clash (let k = simp (t, u, v, w) at h in cc))
-      (λ w. let m = eqb-false (length (topicsOf p)) 0 t in (
+      (λ w. let m = eqb-false (length (topicsOf mode p)) 0 t in (
         simp (t, u, v, w) at h,
         record {
           some = omega arith;
-          few = ltb-false 4 (length (topicsOf p)) u;
-          short = eqb-true (firstLong (topicsOf p)) 0 v;
+          few = ltb-false 4 (length (topicsOf mode p)) u;
+          short = eqb-true (firstLong (topicsOf mode p)) 0 v;
           small = ltb-false 4096 (length p) w;
         },
       )))
@@ -143,34 +147,36 @@ module _ (a e b f : ℕ) where
   of-id flags p word id.MissingFrom h = clash (cc)
   of-id flags p word (id.InvalidFrom n) h = clash (cc)
   of-id flags p word id.InvalidSeqno h =
-      let r = of-peer (senderOf p) (admission.Unfit InvalidSeqno) h in clash (let z = r .1 in cc)
+      let r = of-peer (senderOf (modeOf flags) p) (admission.Unfit InvalidSeqno) h in clash (let z = r .1 in cc)
   of-id flags p word (id.Parts x y z w) h =
-      let u = of-peer (senderOf p) _ h in
-      let s = of-signature (allowsUnsigned flags) p (senderOf p) word (onLimits p (admission.Fit x y z w))
-      (slotsOf kind.RawMessage p .fourth) (slotsOf kind.RawMessage p .fifth) (u .1) in
-      let l = of-limits p (admission.Fit x y z w) (s .1) in
+      let u = of-peer (senderOf (modeOf flags) p) _ h in
+      let s = of-signature (allowsUnsigned flags) p (senderOf (modeOf flags) p) word
+      (onLimits (modeOf flags) p (admission.Fit x y z w))
+      (slotsOf (modeOf flags) kind.RawMessage p .fourth) (slotsOf (modeOf flags) kind.RawMessage p .fifth) (u .1) in
+      let l = of-limits (modeOf flags) p (admission.Fit x y z w) (s .1) in
       let g = l .0 in
       (cc, record { peer = u .0; stood = s .0; limits = l .1 })
 
 -- its id is that of idParts
 pub fit-parts : (flags : ℕ) (p : List ℕ) (word : Bool) (a e b f : ℕ) → admissionOf flags p word ≡ admission.Fit a e b f
-    → idParts p ≡ id.Parts a e b f
+    → idParts (modeOf flags) p ≡ id.Parts a e b f
 unfolding admissionOf
-fit-parts flags p word a e b f h = of-id a e b f flags p word (idParts p) h .0
+fit-parts flags p word a e b f h = of-id a e b f flags p word (idParts (modeOf flags) p) h .0
 
 -- and so are the sender's bytes
-pub sender-is : (p : List ℕ) (a e b f : ℕ) → idParts p ≡ id.Parts a e b f → senderOf p ≡ between p a e
-sender-is p a e b f h = ap (partAt p) (parts-there p a e b f h .0)
+pub sender-is : (mode : Mode) (p : List ℕ) (a e b f : ℕ) → idParts mode p ≡ id.Parts a e b f
+    → senderOf mode p ≡ between p a e
+sender-is mode p a e b f h = ap (partAt p) (parts-there mode p a e b f h .0)
 
 -- it passes the tests behind that
 pub fit-passes : (flags : ℕ) (p : List ℕ) (word : Bool) (a e b f : ℕ) → admissionOf flags p word ≡ admission.Fit a e b f
     → Passes flags p word
 unfolding admissionOf
-fit-passes flags p word a e b f h = of-id a e b f flags p word (idParts p) h .1
+fit-passes flags p word a e b f h = of-id a e b f flags p word (idParts (modeOf flags) p) h .1
 
 -- it keeps the limits on topics and size
 pub fit-limits : (flags : ℕ) (p : List ℕ) (word : Bool) (a e b f : ℕ) → admissionOf flags p word ≡ admission.Fit a e b f
-    → Limits p
+    → Limits (modeOf flags) p
 fit-limits flags p word a e b f h = fit-passes flags p word a e b f h .limits
 
 -- it is vouched for: the host gave its word, or it has no signature and that is allowed
@@ -179,7 +185,8 @@ stood-vouched : {u : Bool} {p s : List ℕ} {word : Bool} {q k : Place} → Stoo
 stood-vouched {u} (signed {q} g key w) = rw w
 stood-vouched {word} (bare t) = rw t (or-true word)
 
-pub fit-vouched : (flags : ℕ) (p : List ℕ) (word : Bool) (a e b f : ℕ) → admissionOf flags p word ≡ admission.Fit a e b f
+pub fit-vouched : (flags : ℕ) (p : List ℕ) (word : Bool) (a e b f : ℕ)
+    → admissionOf flags p word ≡ admission.Fit a e b f
     → vouched flags p word ≡ true
 unfolding vouched isSigned
 fit-vouched flags p word a e b f h = stood-vouched (fit-passes flags p word a e b f h .stood)
@@ -191,7 +198,7 @@ stood-signed (signed g key w) off = ap isThere (g .there)
 stood-signed (bare t) off = clash (cc)
 
 pub fit-signed : (flags : ℕ) (p : List ℕ) (word : Bool) (a e b f : ℕ) → admissionOf flags p word ≡ admission.Fit a e b f
-    → allowsUnsigned flags ≡ false → isSigned p ≡ true
+    → allowsUnsigned flags ≡ false → isSigned (modeOf flags) p ≡ true
 unfolding isSigned
 fit-signed flags p word a e b f h off = stood-signed (fit-passes flags p word a e b f h .stood) off
 
@@ -209,16 +216,18 @@ topic-short t (j ∷ l) h k =
 -- its id has 2 to 128 bytes
 pub fit-id : (flags : ℕ) (p : List ℕ) (word : Bool) (a e b f : ℕ) → admissionOf flags p word ≡ admission.Fit a e b f
     → (2 ≤ length (idBytes p a e b f)) × (length (idBytes p a e b f) ≤ 128)
-fit-id flags p word a e b f h = id-size p a e b f (fit-parts flags p word a e b f h)
+fit-id flags p word a e b f h = id-size (modeOf flags) p a e b f (fit-parts flags p word a e b f h)
 
 -- ---- the host's word matters for a message with a signature alone
 -- a message that is vouched for is answered as with the word
-word-same : (u : Bool) (q k : Place) (p s : List ℕ) (word : Bool) (l : Admission) → (word || (u && not (isThere q))) ≡ true
+word-same : (u : Bool) (q k : Place) (p s : List ℕ) (word : Bool) (l : Admission)
+    → (word || (u && not (isThere q))) ≡ true
     → onSignature u q k (onKey p s k (onWord word l)) l ≡ onSignature u q k (onKey p s k (onWord true l)) l
 word-same u q k p s true l h = refl
 word-same u place.Absent place.Absent p s false l h = refl
 word-same u place.Absent (place.Present x y) p s false l h = refl
-word-same u (place.Present x y) k p s false l h = either u (λ t. clash (let z = rw t at h in cc)) (λ t. clash (let z = rw t at h in cc))
+word-same u (place.Present x y) k p s false l h = either u (λ t. clash (let z = rw t at h in cc))
+    (λ t. clash (let z = rw t at h in cc))
 
 id-vouched : (flags : ℕ) (p : List ℕ) (word : Bool) (i : MessageId) → vouched flags p word ≡ true
     → onId flags p word i ≡ onId flags p true i
@@ -227,13 +236,15 @@ id-vouched flags p word id.MissingFrom h = refl
 id-vouched flags p word (id.InvalidFrom n) h = refl
 id-vouched flags p word id.InvalidSeqno h = refl
 id-vouched flags p word (id.Parts a e b f) h =
-    ap (onPeer (senderOf p)) (word-same (allowsUnsigned flags) (slotsOf kind.RawMessage p .fourth)
-    (slotsOf kind.RawMessage p .fifth) p (senderOf p) word (onLimits p (admission.Fit a e b f)) h)
+    ap (onPeer (senderOf (modeOf flags) p)) (word-same (allowsUnsigned flags)
+    (slotsOf (modeOf flags) kind.RawMessage p .fourth)
+    (slotsOf (modeOf flags) kind.RawMessage p .fifth) p (senderOf (modeOf flags) p) word
+    (onLimits (modeOf flags) p (admission.Fit a e b f)) h)
 
 pub vouched-same : (flags : ℕ) (p : List ℕ) (word : Bool) → vouched flags p word ≡ true
     → admissionOf flags p word ≡ admissionOf flags p true
 unfolding admissionOf
-vouched-same flags p word h = id-vouched flags p word (idParts p) h
+vouched-same flags p word h = id-vouched flags p word (idParts (modeOf flags) p) h
 
 -- so one that is taken is taken with it
 pub fit-true : (flags : ℕ) (p : List ℕ) (word : Bool) (a e b f : ℕ) → admissionOf flags p word ≡ admission.Fit a e b f
@@ -242,18 +253,20 @@ fit-true flags p word a e b f h = sym (vouched-same flags p word (fit-vouched fl
 
 -- ---- 27 comes from the host's word alone
 -- without it no message with a signature is taken
-pub no-word : (flags : ℕ) (p : List ℕ) (a e b f : ℕ) → isSigned p ≡ true → admissionOf flags p false ≡ admission.Fit a e b f → ⊥
+pub no-word : (flags : ℕ) (p : List ℕ) (a e b f : ℕ) → isSigned (modeOf flags) p ≡ true
+    → admissionOf flags p false ≡ admission.Fit a e b f → ⊥
 unfolding vouched
 no-word flags p a e b f there h =
-    let z : (allowsUnsigned flags && not (isSigned p)) ≡ true = fit-vouched flags p false a e b f h in
+    let z : (allowsUnsigned flags && not (isSigned (modeOf flags) p)) ≡ true = fit-vouched flags p false a e b f h in
     either (allowsUnsigned flags) (λ t. clash (let y = rw (t, there) at z in cc)) (λ t. clash (let y = rw t at z in cc))
 
-limits-never : (p : List ℕ) (a e b f : ℕ) → onLimits p (admission.Fit a e b f) ≡ admission.Unfit SignatureInvalid → ⊥
+limits-never : (mode : Mode) (p : List ℕ) (a e b f : ℕ)
+    → onLimits mode p (admission.Fit a e b f) ≡ admission.Unfit SignatureInvalid → ⊥
 unfolding onLimits
-limits-never p a e b f h =
-    either (eqb (length (topicsOf p)) 0) (λ t. clash (let k = simp t at h in cc))
-    (λ t. either (ltb 4 (length (topicsOf p))) (λ u. clash (let k = simp (t, u) at h in cc))
-    (λ u. either (eqb (firstLong (topicsOf p)) 0)
+limits-never mode p a e b f h =
+    either (eqb (length (topicsOf mode p)) 0) (λ t. clash (let k = simp t at h in cc))
+    (λ t. either (ltb 4 (length (topicsOf mode p))) (λ u. clash (let k = simp (t, u) at h in cc))
+    (λ u. either (eqb (firstLong (topicsOf mode p)) 0)
     (λ v. either (ltb 4096 (length p)) (λ w. clash (let k = simp (t, u, v, w) at h in cc))
     (λ w. clash (let k = simp (t, u, v, w) at h in cc)))
     (λ v. clash (let k = simp (t, u, v) at h in cc))))
@@ -283,35 +296,40 @@ id-never : (flags : ℕ) (p : List ℕ) (i : MessageId) → onId flags p true i 
 id-never flags p id.MissingFrom h = clash (cc)
 id-never flags p (id.InvalidFrom n) h = clash (cc)
 id-never flags p id.InvalidSeqno h =
-    peer-never (senderOf p) (admission.Unfit InvalidSeqno) (λ z. clash (cc)) h
+    peer-never (senderOf (modeOf flags) p) (admission.Unfit InvalidSeqno) (λ z. clash (cc)) h
 id-never flags p (id.Parts a e b f) h =
-    let q = slotsOf kind.RawMessage p .fifth in
-    let r = onLimits p (admission.Fit a e b f) in
-    peer-never (senderOf p)
-    (onSignature (allowsUnsigned flags) (slotsOf kind.RawMessage p .fourth) q (onKey p (senderOf p) q r) r)
-    (signature-never (allowsUnsigned flags) (slotsOf kind.RawMessage p .fourth) q (onKey p (senderOf p) q r) r
-    (key-never p (senderOf p) q r (limits-never p a e b f)) (limits-never p a e b f)) h
+    let q = slotsOf (modeOf flags) kind.RawMessage p .fifth in
+    let r = onLimits (modeOf flags) p (admission.Fit a e b f) in
+    peer-never (senderOf (modeOf flags) p)
+    (onSignature (allowsUnsigned flags) (slotsOf (modeOf flags) kind.RawMessage p .fourth) q
+    (onKey p (senderOf (modeOf flags) p) q r) r)
+    (signature-never (allowsUnsigned flags) (slotsOf (modeOf flags) kind.RawMessage p .fourth) q
+    (onKey p (senderOf (modeOf flags) p) q r) r
+    (key-never p (senderOf (modeOf flags) p) q r (limits-never (modeOf flags) p a e b f))
+    (limits-never (modeOf flags) p a e b f)) h
 
 -- and with it 27 is never the answer
 pub word-only : (flags : ℕ) (p : List ℕ) (why : Unfit) → admissionOf flags p true ≡ admission.Unfit why
     → why ≡ SignatureInvalid → ⊥
 unfolding admissionOf
-word-only flags p why h e = id-never flags p (idParts p) (h ∙ ap admission.Unfit e)
+word-only flags p why h e = id-never flags p (idParts (modeOf flags) p) (h ∙ ap admission.Unfit e)
 
 -- ---- which id a message gives
-pub gives-refused : (flags : ℕ) (p i : List ℕ) (why : WireError) → counted kind.RawMessage p ≡ count.Refused why
+pub gives-refused : (flags : ℕ) (p i : List ℕ) (why : WireError)
+    → counted (modeOf flags) kind.RawMessage p ≡ count.Refused why
     → false ≡ givesId flags p i
 unfolding givesId
 gives-refused flags p i why h = ap (λ c. whereRead c (idGiven p i (admissionOf flags p true))) (sym h)
 
-pub gives-fit : (flags : ℕ) (p i : List ℕ) (n a e b f : ℕ) (r : Bool) → counted kind.RawMessage p ≡ count.Records n
+pub gives-fit : (flags : ℕ) (p i : List ℕ) (n a e b f : ℕ) (r : Bool)
+    → counted (modeOf flags) kind.RawMessage p ≡ count.Records n
     → admissionOf flags p true ≡ admission.Fit a e b f → r ≡ sameBytes (idBytes p a e b f) i → r ≡ givesId flags p i
 unfolding givesId
 gives-fit flags p i n a e b f r h k g = g ∙ ap (idGiven p i) (sym k)
     ∙ ap (λ c. whereRead c (idGiven p i (admissionOf flags p true))) (sym h)
 
 -- its own
-pub gives-own : (flags : ℕ) (p : List ℕ) (n a e b f : ℕ) → counted kind.RawMessage p ≡ count.Records n
+pub gives-own : (flags : ℕ) (p : List ℕ) (n a e b f : ℕ) → counted (modeOf flags) kind.RawMessage p ≡ count.Records n
     → admissionOf flags p true ≡ admission.Fit a e b f → givesId flags p (idBytes p a e b f) ≡ true
 gives-own flags p n a e b f h k =
     sym (gives-fit flags p (idBytes p a e b f) n a e b f true h k (sym (same-self (idBytes p a e b f))))
@@ -323,11 +341,11 @@ pub record Gives (flags : ℕ) (p i : List ℕ) : Type 0 where
   pub from-end : ℕ
   pub seqno-start : ℕ
   pub seqno-end : ℕ
-  pub read : counted kind.RawMessage p ≡ count.Records records
+  pub read : counted (modeOf flags) kind.RawMessage p ≡ count.Records records
   pub taken : admissionOf flags p true ≡ admission.Fit from-start from-end seqno-start seqno-end
   pub named : i ≡ idBytes p from-start from-end seqno-start seqno-end
 
-of-fit : (flags : ℕ) (p i : List ℕ) (n : ℕ) (r : Admission) → counted kind.RawMessage p ≡ count.Records n
+of-fit : (flags : ℕ) (p i : List ℕ) (n : ℕ) (r : Admission) → counted (modeOf flags) kind.RawMessage p ≡ count.Records n
     → admissionOf flags p true ≡ r → idGiven p i r ≡ true → Gives flags p i
 of-fit flags p i n (admission.Unfit why) h k g = clash (cc)
 of-fit flags p i n (admission.Fit a e b f) h k g =
@@ -342,17 +360,18 @@ of-fit flags p i n (admission.Fit a e b f) h k g =
       named = sym (same-equal (idBytes p a e b f) i g);
     }
 
-of-read : (flags : ℕ) (p i : List ℕ) (c : Counted) → counted kind.RawMessage p ≡ c
+of-read : (flags : ℕ) (p i : List ℕ) (c : Counted) → counted (modeOf flags) kind.RawMessage p ≡ c
     → whereRead c (idGiven p i (admissionOf flags p true)) ≡ true → Gives flags p i
 of-read flags p i (count.Refused why) h g = clash (cc)
 of-read flags p i (count.Records n) h g = of-fit flags p i n (admissionOf flags p true) h refl g
 
 pub gives-only : (flags : ℕ) (p i : List ℕ) → givesId flags p i ≡ true → Gives flags p i
 unfolding givesId
-gives-only flags p i g = of-read flags p i (counted kind.RawMessage p) refl g
+gives-only flags p i g = of-read flags p i (counted (modeOf flags) kind.RawMessage p) refl g
 
 -- where no unsigned message is allowed, it has a signature
-pub gives-signed : (flags : ℕ) (p i : List ℕ) → givesId flags p i ≡ true → allowsUnsigned flags ≡ false → isSigned p ≡ true
+pub gives-signed : (flags : ℕ) (p i : List ℕ) → givesId flags p i ≡ true → allowsUnsigned flags ≡ false
+    → isSigned (modeOf flags) p ≡ true
 gives-signed flags p i g off =
     let r = gives-only flags p i g in
     fit-signed flags p true (r .from-start) (r .from-end) (r .seqno-start) (r .seqno-end) (r .taken) off
@@ -371,37 +390,42 @@ one-id flags m i j g h =
     a .named ∙ rw (p, q, r, s) (sym (b .named))
 
 -- ---- a message of an accepted body is well formed
-message-role : (d : Dialect) (f : Field) → isBytes 2 f ≡ true → roleOf (kind.Rpc d) (f .field) (f .«wire_type»)
+message-role : (d : Dialect) (f : Field) → isBytes 2 f ≡ true
+    → roleOf (kind.Rpc (d .edition)) (f .field) (f .«wire_type»)
     ≡ Sub kind.RawMessage Whole
 unfolding roleOf
 message-role d f h =
     either (eqb (f .«wire_type») 2)
-    (λ t. either (eqb (f .field) 2) (λ u. simp t (ap (lenRole (kind.Rpc d)) (eqb-true (f .field) 2 u)))
+    (λ t. either (eqb (f .field) 2) (λ u. simp t (ap (lenRole (kind.Rpc (d .edition))) (eqb-true (f .field) 2 u)))
     (λ u. clash (let k = simp (t, u) at h in cc)))
     (λ t. clash (let k = simp t at h in cc))
 
 read-along : (d : Dialect) (s : List ℕ) (i a e at n m : ℕ)
-    → countAlong counted (kind.Rpc d) s (walkAt s at) ≡ count.Records m → messageAlong i n (walkAt s at) ≡ At a e → (x : ℕ) × (counted kind.RawMessage (between s a e) ≡ count.Records x)
+    → countAlong (counted (d .mode)) (kind.Rpc (d .edition)) s (walkAt (d .mode) s at) ≡ count.Records m
+    → messageAlong i n (walkAt (d .mode) s at) ≡ At a e → (x : ℕ)
+    × (counted (d .mode) kind.RawMessage (between s a e) ≡ count.Records x)
 read-along d s i a e =
-    along s (λ (at : ℕ) (w : Fields). (n m : ℕ) → countAlong counted (kind.Rpc d) s w ≡ count.Records m
-    → messageAlong i n w ≡ At a e → (x : ℕ) × (counted kind.RawMessage (between s a e) ≡ count.Records x))
+    along (d .mode) s (λ (at : ℕ) (w : Fields). (n m : ℕ)
+    → countAlong (counted (d .mode)) (kind.Rpc (d .edition)) s w ≡ count.Records m
+    → messageAlong i n w ≡ At a e → (x : ℕ) × (counted (d .mode) kind.RawMessage (between s a e) ≡ count.Records x))
     (λ at n m g h. clash (cc))
     (λ at why r n m g h. clash (cc))
     (λ at f st r rest n m g h.
-    let t = then-fits (roleCount counted s f (roleOf (kind.Rpc d) (f .field) (f .«wire_type»)))
-    (countAlong counted (kind.Rpc d) s (walkAt s (f .next))) m g in
+    let t = then-fits (roleCount (counted (d .mode)) s f (roleOf (kind.Rpc (d .edition)) (f .field) (f .«wire_type»)))
+    (countAlong (counted (d .mode)) (kind.Rpc (d .edition)) s (walkAt (d .mode) s (f .next))) m g in
     either (isBytes 2 f)
     (λ u. either (eqb n i)
     (λ v. let k = simp (u, v) at h in
     let pa : f .start ≡ a = cc in let pe : f .next ≡ e = cc in
-    let y = plus-fits (ownOf kind.RawMessage) (t .0) (counted kind.RawMessage (between s (f .start) (f .next)))
-    (sym (ap (roleCount counted s f) (message-role d f u)) ∙ t .2) in
-    (y .0, ap (counted kind.RawMessage) (ap₂ (between s) (sym pa) (sym pe)) ∙ y .1))
+    let y = plus-fits (ownOf kind.RawMessage) (t .0)
+    (counted (d .mode) kind.RawMessage (between s (f .start) (f .next)))
+    (sym (ap (roleCount (counted (d .mode)) s f) (message-role d f u)) ∙ t .2) in
+    (y .0, ap (counted (d .mode) kind.RawMessage) (ap₂ (between s) (sym pa) (sym pe)) ∙ y .1))
     (λ v. rest (n + 1) (t .1) (t .3) (simp (u, v) at h)))
     (λ u. rest n (t .1) (t .3) (simp u at h)))
 
-pub message-read : (d : Dialect) (s : List ℕ) (i a e : ℕ) → acceptOf d s ≡ Fine → messageAt s i ≡ At a e
-    → (n : ℕ) × (counted kind.RawMessage (between s a e) ≡ count.Records n)
+pub message-read : (d : Dialect) (s : List ℕ) (i a e : ℕ) → acceptOf d s ≡ Fine → messageAt (d .mode) s i ≡ At a e
+    → (n : ℕ) × (counted (d .mode) kind.RawMessage (between s a e) ≡ count.Records n)
 unfolding messageAt
 message-read d s i a e h k = let c = accept-records d s h in
-    read-along d s i a e 0 0 (c .0) (sym (count-along (kind.Rpc d) s) ∙ c .1) k
+    read-along d s i a e 0 0 (c .0) (sym (count-along (d .mode) (kind.Rpc (d .edition)) s) ∙ c .1) k

@@ -52,7 +52,8 @@ pub record Limits (mode : Mode) (p : List ℕ) : Type 0 where
 
 -- what stands behind a message whose sender is s
 pub data Backed (flags : ℕ) (p : List ℕ) (word : Bool) (s : List ℕ) : Type 0 where
-  signed : Signed (slotsOf (modeOf flags) kind.RawMessage p .fourth) → KeyOf s (givenAt p (slotsOf (modeOf flags) kind.RawMessage p .fifth)) → word ≡ true
+  signed : Signed (slotsOf (modeOf flags) kind.RawMessage p .fourth)
+      → KeyOf s (givenAt p (slotsOf (modeOf flags) kind.RawMessage p .fifth)) → word ≡ true
       → Backed flags p word s
   -- neither signature nor key; the host's word does not matter
   unsigned : allowsUnsigned flags ≡ true → slotsOf (modeOf flags) kind.RawMessage p .fourth ≡ place.Absent

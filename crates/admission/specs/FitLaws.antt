@@ -8,6 +8,8 @@ use mathlib.Core.Logic.{_↔_}
 use native.Mathlib.Omega.{arith}
 use lib.ListN.{length, drop, length-take, length-drop}
 use borrow.Author.Tests.{eq-eqb, ne-eqb, le-ltb}
+use Rattle.basis.specs.declared.Mode.{Mode}
+use Rattle.basis.specs.Dialect.{modeOf}
 use Rattle.basis.specs.Cases.{clash, both}
 use Rattle.basis.specs.Bytes.{Bytes}
 use Rattle.basis.specs.Lists.{drop-bytes, take-bytes}
@@ -43,7 +45,8 @@ use Rattle.ids.specs.declared.MessageId.the-variants as id
 use Rattle.ids.specs.Ids.{idParts}
 
 -- ---- which peer id it is
-of-hash : (s : List ℕ) (r : PeerId) → fromBytes s ≡ r → byHash r true true ≡ true → (h : Hash) × IsPeerId s h (digestOf s)
+of-hash : (s : List ℕ) (r : PeerId) → fromBytes s ≡ r → byHash r true true ≡ true → (h : Hash)
+    × IsPeerId s h (digestOf s)
 of-hash s peer.Identity e n = (identity, peer-exactly s (digestOf s) identity .0 (e, refl))
 of-hash s peer.Sha256 e n = (sha-256, peer-exactly s (digestOf s) sha-256 .0 (e, refl))
 of-hash s peer.NotPeerId e n = clash (cc)
@@ -132,14 +135,14 @@ module _ (p s : List ℕ) (bp : Bytes p) (bs : Bytes s) (lp : length p ≤ 4096)
       let y = fits-there (between p a e) k refl (part-bytes a e) (part-small a e) in rw (y .0, y .1)
 
 -- ---- what passes each test is handed on
-to-limits : (p : List ℕ) (r : Admission) → Limits p → onLimits p r ≡ r
+to-limits : (mode : Mode) (p : List ℕ) (r : Admission) → Limits mode p → onLimits mode p r ≡ r
 unfolding onLimits
-to-limits p r l =
+to-limits mode p r l =
     let m = l .some in
     simp (
-      ne-eqb (length (topicsOf p)) 0 (λ z. absurd (omega arith)),
-      le-ltb 4 (length (topicsOf p)) (l .few),
-      eq-eqb (firstLong (topicsOf p)) 0 (l .short),
+      ne-eqb (length (topicsOf mode p)) 0 (λ z. absurd (omega arith)),
+      le-ltb 4 (length (topicsOf mode p)) (l .few),
+      eq-eqb (firstLong (topicsOf mode p)) 0 (l .short),
       le-ltb 4096 (length p) (l .small),
     )
 
@@ -171,13 +174,14 @@ module _ (p : List ℕ) (a e b f : ℕ) (bp : Bytes p) where
 
 module _ (flags : ℕ) (p : List ℕ) (word : Bool) (a e b f : ℕ) (bp : Bytes p) where
   abbrev fourth : Place
-  fourth = slotsOf kind.RawMessage p .fourth
+  fourth = slotsOf (modeOf flags) kind.RawMessage p .fourth
 
   abbrev fifth : Place
-  fifth = slotsOf kind.RawMessage p .fifth
+  fifth = slotsOf (modeOf flags) kind.RawMessage p .fifth
 
-  is-backed : {q k : Place} → Stood (allowsUnsigned flags) p (senderOf p) word q k → fourth ≡ q → fifth ≡ k
-      → senderOf p ≡ between p a e → length p ≤ 4096 → Backed flags p word (between p a e)
+  is-backed : {q k : Place} → Stood (allowsUnsigned flags) p (senderOf (modeOf flags) p) word q k → fourth ≡ q
+      → fifth ≡ k
+      → senderOf (modeOf flags) p ≡ between p a e → length p ≤ 4096 → Backed flags p word (between p a e)
   is-backed (stood.signed {q} {k} g key w) f4 f5 s small =
       fit.signed (subst Signed (sym f4) g)
       (clause p (between p a e) bp (sender-bytes p a e b f bp) small (sender-small p a e b f bp small) fifth
@@ -188,7 +192,7 @@ module _ (flags : ℕ) (p : List ℕ) (word : Bool) (a e b f : ℕ) (bp : Bytes 
   is-fit h =
       let i = fit-parts flags p word a e b f h in
       let g = fit-passes flags p word a e b f h in
-      let s : senderOf p ≡ between p a e = sender-is p a e b f i in
+      let s : senderOf (modeOf flags) p ≡ between p a e = sender-is (modeOf flags) p a e b f i in
       let n = peer-is (between p a e) (sym (ap isPeerId s) ∙ g .peer) in
       record {
         parts = i;
@@ -199,27 +203,31 @@ module _ (flags : ℕ) (p : List ℕ) (word : Bool) (a e b f : ℕ) (bp : Bytes 
         limits = g .limits;
       }
 
-  backed-on : {s : List ℕ} (l : Admission) → Backed flags p word s → s ≡ between p a e → senderOf p ≡ s → length p ≤ 4096
-      → onSignature (allowsUnsigned flags) fourth fifth (onKey p (senderOf p) fifth (onWord word l)) l ≡ l
+  backed-on : {s : List ℕ} (l : Admission) → Backed flags p word s → s ≡ between p a e → senderOf (modeOf flags) p ≡ s
+      → length p ≤ 4096
+      → onSignature (allowsUnsigned flags) fourth fifth (onKey p (senderOf (modeOf flags) p) fifth (onWord word l)) l
+      ≡ l
   backed-on l (fit.signed g k w) c s small =
-      let y : keyFits p (senderOf p) fifth ≡ true = ap (λ (x : List ℕ). keyFits p x fifth) (s ∙ c)
+      let y : keyFits p (senderOf (modeOf flags) p) fifth ≡ true = ap (λ (x : List ℕ). keyFits p x fifth) (s ∙ c)
       ∙ fits p (between p a e) bp (sender-bytes p a e b f bp) small (sender-small p a e b f bp small) fifth
       (subst (λ (x : List ℕ). KeyOf x (givenAt p fifth)) c k) in
-      to-signature (allowsUnsigned flags) fourth fifth (onKey p (senderOf p) fifth (onWord word l)) l g
-      ∙ to-key p (senderOf p) fifth (onWord word l) y
+      to-signature (allowsUnsigned flags) fourth fifth (onKey p (senderOf (modeOf flags) p) fifth (onWord word l)) l g
+      ∙ to-key p (senderOf (modeOf flags) p) fifth (onWord word l) y
       ∙ to-word word l w
   backed-on l (fit.unsigned t f4 f5) c s small =
-      ap₂ (λ (q k : Place). onSignature (allowsUnsigned flags) q k (onKey p (senderOf p) k (onWord word l)) l) f4 f5 ∙ rw t
+      ap₂ (λ (q k : Place). onSignature (allowsUnsigned flags) q k
+      (onKey p (senderOf (modeOf flags) p) k (onWord word l)) l) f4 f5 ∙ rw t
 
   is-taken : IsFit flags p word a e b f → admissionOf flags p word ≡ admission.Fit a e b f
   unfolding admissionOf
   is-taken x =
-      let s : senderOf p ≡ between p a e = sender-is p a e b f (x .parts) in
+      let s : senderOf (modeOf flags) p ≡ between p a e = sender-is (modeOf flags) p a e b f (x .parts) in
       let fit = admission.Fit a e b f in
       ap (onId flags p word) (x .parts)
-      ∙ to-peer (senderOf p) (x .hash) (x .digest) _ (subst (λ (l : List ℕ). IsPeerId l (x .hash) (x .digest)) (sym s) (x .peer))
-      ∙ backed-on (onLimits p fit) (x .backed) refl s (x .limits .small)
-      ∙ to-limits p fit (x .limits)
+      ∙ to-peer (senderOf (modeOf flags) p) (x .hash) (x .digest) _
+      (subst (λ (l : List ℕ). IsPeerId l (x .hash) (x .digest)) (sym s) (x .peer))
+      ∙ backed-on (onLimits (modeOf flags) p fit) (x .backed) refl s (x .limits .small)
+      ∙ to-limits (modeOf flags) p fit (x .limits)
 
   -- a message is taken, with from and seqno in these places, exactly where it is fit
   pub fit-exactly : (admissionOf flags p word ≡ admission.Fit a e b f) ↔ IsFit flags p word a e b f
@@ -229,14 +237,15 @@ module _ (flags : ℕ) (p : List ℕ) (word : Bool) (a e b f : ℕ) (bp : Bytes 
   -- keeps the limits: for either word
   pub record FitUnsigned : Type 0 where
     pub allowed : allowsUnsigned flags ≡ true
-    pub no-key : slotsOf kind.RawMessage p .fifth ≡ place.Absent
-    pub parts : idParts p ≡ id.Parts a e b f
+    pub no-key : slotsOf (modeOf flags) kind.RawMessage p .fifth ≡ place.Absent
+    pub parts : idParts (modeOf flags) p ≡ id.Parts a e b f
     pub hash : Hash
     pub digest : List ℕ
     pub peer : IsPeerId (between p a e) hash digest
-    pub limits : Limits p
+    pub limits : Limits (modeOf flags) p
 
-  backed-unsigned : {s : List ℕ} → Backed flags p word s → isThere fourth ≡ false → (allowsUnsigned flags ≡ true) × (fifth ≡ place.Absent)
+  backed-unsigned : {s : List ℕ} → Backed flags p word s → isThere fourth ≡ false → (allowsUnsigned flags ≡ true)
+      × (fifth ≡ place.Absent)
   backed-unsigned (fit.signed g k w) h = clash (let z = ap isThere (g .there) in cc)
   backed-unsigned (fit.unsigned t f4 f5) h = (t, f5)
 
@@ -244,7 +253,8 @@ module _ (flags : ℕ) (p : List ℕ) (word : Bool) (a e b f : ℕ) (bp : Bytes 
   not-there place.Absent h = refl
   not-there (place.Present x y) h = clash (cc)
 
-  pub unsigned-exactly : isSigned p ≡ false → (admissionOf flags p word ≡ admission.Fit a e b f) ↔ FitUnsigned
+  pub unsigned-exactly : isSigned (modeOf flags) p ≡ false
+      → (admissionOf flags p word ≡ admission.Fit a e b f) ↔ FitUnsigned
   unfolding isSigned
   unsigned-exactly n = (
     λ h.

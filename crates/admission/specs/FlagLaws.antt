@@ -5,6 +5,9 @@ use mathlib.Core.Path.{_≡_, refl, sym, ap, _∙_}
 use mathlib.Core.Bool.{Bool, true, false, cond, _&&_, and-true}
 use mathlib.Core.List.{List}
 use lib.Dec.{eqb}
+use Rattle.basis.specs.declared.Mode.{Mode}
+use Rattle.basis.specs.declared.Mode.the-variants.{Plain, Groups}
+use Rattle.basis.specs.Dialect.{modeOf}
 use Rattle.basis.specs.Cases.{either, clash, both}
 use Rattle.schema.specs.declared.Kind.the-variants as kind
 use Rattle.schema.specs.declared.Place.{Place}
@@ -25,32 +28,47 @@ use Rattle.admission.specs.Admission.{senderOf, onId, admissionOf, isThe
 use Rattle.admission.specs.Admission.{keptWith}
 use Rattle.admission.specs.AdmissionLaws.{Gives, gives-only, gives-own, gives-signed}
 
--- ---- admission as it was: every message has a signature
+-- ---- the four numbers that flags may have: bit 0 and the mode do not depend on each other
+pub known-modes : (modeOf 0 ≡ Plain) × (modeOf 1 ≡ Plain) × (modeOf 2 ≡ Groups) × (modeOf 3 ≡ Groups)
+unfolding modeOf
+known-modes = (refl, refl, refl, refl)
+
+pub known-allowed :
+    (allowsUnsigned 0 ≡ false)
+    × (allowsUnsigned 1 ≡ true)
+    × (allowsUnsigned 2 ≡ false)
+    × (allowsUnsigned 3 ≡ true)
+unfolding allowsUnsigned
+known-allowed = (refl, refl, refl, refl)
+
+-- ---- admission as it was, in a mode: every message has a signature
 abbrev pub signatureWas : Place → Place → Admission → Admission
 signatureWas place.Absent place.Absent r = admission.Unfit MissingSignature
 signatureWas place.Absent (place.Present a e) r = admission.Unfit KeyWithoutSignature
 signatureWas (place.Present a e) key r = cond (eqb (e - a) 64) r (admission.Unfit (InvalidSignatureLength (e - a)))
 
-abbrev pub idWas : List ℕ → Bool → MessageId → Admission
-idWas p word id.MissingFrom = admission.Unfit MissingFrom
-idWas p word (id.InvalidFrom n) = admission.Unfit (InvalidFrom n)
-idWas p word id.InvalidSeqno = onPeer (senderOf p) (admission.Unfit InvalidSeqno)
-idWas p word (id.Parts a e b f) =
-    onPeer (senderOf p)
-    (signatureWas (slotsOf kind.RawMessage p .fourth) (slotsOf kind.RawMessage p .fifth)
-    (onKey p (senderOf p) (slotsOf kind.RawMessage p .fifth) (onWord word (onLimits p (admission.Fit a e b f)))))
+abbrev pub idWas : Mode → List ℕ → Bool → MessageId → Admission
+idWas mode p word id.MissingFrom = admission.Unfit MissingFrom
+idWas mode p word (id.InvalidFrom n) = admission.Unfit (InvalidFrom n)
+idWas mode p word id.InvalidSeqno = onPeer (senderOf mode p) (admission.Unfit InvalidSeqno)
+idWas mode p word (id.Parts a e b f) =
+    onPeer (senderOf mode p)
+    (signatureWas (slotsOf mode kind.RawMessage p .fourth) (slotsOf mode kind.RawMessage p .fifth)
+    (onKey p (senderOf mode p) (slotsOf mode kind.RawMessage p .fifth)
+    (onWord word (onLimits mode p (admission.Fit a e b f)))))
 
-unfoldable pub admissionWas : List ℕ → Bool → Admission
-admissionWas p word = idWas p word (idParts p)
+unfoldable pub admissionWas : Mode → List ℕ → Bool → Admission
+admissionWas mode p word = idWas mode p word (idParts mode p)
 
-unfoldable pub givesWas : List ℕ → List ℕ → Bool
-givesWas p i = whereRead (counted kind.RawMessage p) (idGiven p i (admissionWas p true))
+unfoldable pub givesWas : Mode → List ℕ → List ℕ → Bool
+givesWas mode p i = whereRead (counted mode kind.RawMessage p) (idGiven p i (admissionWas mode p true))
 
-unfoldable pub keptWas : List ℕ → List ℕ → List Span → Bool
-keptWas p i ts = givesWas p i && sameSpans (topicPlaces p) ts
+unfoldable pub keptWas : Mode → List ℕ → List ℕ → List Span → Bool
+keptWas mode p i ts = givesWas mode p i && sameSpans (topicPlaces mode p) ts
 
 -- ---- with a signature, or with the flag off, it is that
-signature-same : (u : Bool) (q k : Place) (r l : Admission) → (isThere q ≡ true) → onSignature u q k r l ≡ signatureWas q k r
+signature-same : (u : Bool) (q k : Place) (r l : Admission) → (isThere q ≡ true)
+    → onSignature u q k r l ≡ signatureWas q k r
 signature-same u place.Absent k r l h = clash (cc)
 signature-same u (place.Present a e) k r l h = refl
 
@@ -61,51 +79,58 @@ signature-off u (place.Present a e) k r l h = refl
 
 module _ (flags : ℕ) (p : List ℕ) (word : Bool) where
   id-was : (i : MessageId) → ((k : Place) (r l : Admission)
-      → onSignature (allowsUnsigned flags) (slotsOf kind.RawMessage p .fourth) k r l ≡ signatureWas (slotsOf kind.RawMessage p .fourth) k r)
-      → onId flags p word i ≡ idWas p word i
+      → onSignature (allowsUnsigned flags) (slotsOf (modeOf flags) kind.RawMessage p .fourth) k r l
+      ≡ signatureWas (slotsOf (modeOf flags) kind.RawMessage p .fourth) k r)
+      → onId flags p word i ≡ idWas (modeOf flags) p word i
   id-was id.MissingFrom h = refl
   id-was (id.InvalidFrom n) h = refl
   id-was id.InvalidSeqno h = refl
-  id-was (id.Parts a e b f) h = ap (onPeer (senderOf p)) (h (slotsOf kind.RawMessage p .fifth) _ _)
+  id-was (id.Parts a e b f) h = ap (onPeer (senderOf (modeOf flags) p))
+      (h (slotsOf (modeOf flags) kind.RawMessage p .fifth) _ _)
 
-  pub admission-off : allowsUnsigned flags ≡ false → admissionOf flags p word ≡ admissionWas p word
+  pub admission-off : allowsUnsigned flags ≡ false → admissionOf flags p word ≡ admissionWas (modeOf flags) p word
   unfolding admissionOf admissionWas
   admission-off h =
-      id-was (idParts p) (λ k r l. signature-off (allowsUnsigned flags) (slotsOf kind.RawMessage p .fourth) k r l h)
+      id-was (idParts (modeOf flags) p) (λ k r l. signature-off (allowsUnsigned flags)
+      (slotsOf (modeOf flags) kind.RawMessage p .fourth) k r l h)
 
-  pub admission-signed : isSigned p ≡ true → admissionOf flags p word ≡ admissionWas p word
+  pub admission-signed : isSigned (modeOf flags) p ≡ true
+      → admissionOf flags p word ≡ admissionWas (modeOf flags) p word
   unfolding admissionOf admissionWas isSigned
   admission-signed h =
-      id-was (idParts p) (λ k r l. signature-same (allowsUnsigned flags) (slotsOf kind.RawMessage p .fourth) k r l h)
+      id-was (idParts (modeOf flags) p) (λ k r l. signature-same (allowsUnsigned flags)
+      (slotsOf (modeOf flags) kind.RawMessage p .fourth) k r l h)
 
 module _ (flags : ℕ) (p i : List ℕ) where
-  pub gives-off : allowsUnsigned flags ≡ false → givesId flags p i ≡ givesWas p i
+  pub gives-off : allowsUnsigned flags ≡ false → givesId flags p i ≡ givesWas (modeOf flags) p i
   unfolding givesId givesWas
   gives-off h = rw (admission-off flags p true h)
 
-  pub kept-off : (ts : List Span) → allowsUnsigned flags ≡ false → keptWith flags p i ts ≡ keptWas p i ts
+  pub kept-off : (ts : List Span) → allowsUnsigned flags ≡ false → keptWith flags p i ts ≡ keptWas (modeOf flags) p i ts
   unfolding keptWith keptWas
   kept-off ts h = rw (gives-off h)
 
   -- ---- under any flags a message with a signature gives the id that it gave
-  pub gives-as-was : isSigned p ≡ true → givesId flags p i ≡ givesWas p i
+  pub gives-as-was : isSigned (modeOf flags) p ≡ true → givesId flags p i ≡ givesWas (modeOf flags) p i
   unfolding givesId givesWas
   gives-as-was h = rw (admission-signed flags p true h)
 
 -- so what is cached with the flag off may be taken with it on: a setting that is turned on from outside is not found out
-pub gives-on : (off flags : ℕ) (p i : List ℕ) → allowsUnsigned off ≡ false → givesId off p i ≡ true
-    → givesId flags p i ≡ true
-gives-on off flags p i h g =
-    gives-as-was flags p i (gives-signed off p i g h) ∙ sym (gives-off off p i h) ∙ g
+pub gives-on : (off flags : ℕ) (p i : List ℕ) → modeOf off ≡ modeOf flags → allowsUnsigned off ≡ false
+    → givesId off p i ≡ true → givesId flags p i ≡ true
+gives-on off flags p i m h g =
+    gives-as-was flags p i (ap (λ (mode : Mode). isSigned mode p) (sym m) ∙ gives-signed off p i g h)
+    ∙ ap (λ (mode : Mode). givesWas mode p i) (sym m) ∙ sym (gives-off off p i h) ∙ g
 
-pub kept-on : (off flags : ℕ) (p i : List ℕ) (ts : List Span) → allowsUnsigned off ≡ false → keptWith off p i ts ≡ true
-    → keptWith flags p i ts ≡ true
+pub kept-on : (off flags : ℕ) (p i : List ℕ) (ts : List Span) → modeOf off ≡ modeOf flags → allowsUnsigned off ≡ false
+    → keptWith off p i ts ≡ true → keptWith flags p i ts ≡ true
 unfolding keptWith
-kept-on off flags p i ts h k =
-    let b = both (givesId off p i) (sameSpans (topicPlaces p) ts) k in
-    rw (gives-on off flags p i h (b .0)) (b .1)
+kept-on off flags p i ts m h k =
+    let b = both (givesId off p i) (sameSpans (topicPlaces (modeOf off) p) ts) k in
+    rw (gives-on off flags p i m h (b .0)) (ap (λ (mode : Mode). sameSpans (topicPlaces mode p) ts) (sym m) ∙ b .1)
 
 -- and one without a signature may not be taken once the flag is off
-pub gives-not : (flags : ℕ) (p i : List ℕ) → allowsUnsigned flags ≡ false → isSigned p ≡ false → givesId flags p i ≡ false
+pub gives-not : (flags : ℕ) (p i : List ℕ) → allowsUnsigned flags ≡ false → isSigned (modeOf flags) p ≡ false
+    → givesId flags p i ≡ false
 gives-not flags p i h n =
     either (givesId flags p i) (λ t. clash (let z = gives-signed flags p i t h in cc)) (λ t. t)

@@ -8,6 +8,8 @@ use lib.ListN.{length, take, drop, getD, length-map}
 use lib.Seq.{sets, take-length, getD-take}
 use lib.Dec.{eqb}
 use borrow.Author.Tests.{eqb-true, eq-eqb}
+use Rattle.basis.specs.declared.Mode.{Mode}
+use Rattle.basis.specs.Dialect.{modeOf}
 use Rattle.basis.specs.Cases.{either, clash, both}
 use Rattle.protobuf.specs.Walk.{Fields, end, refused, _then_, fieldsOf, walkAt, isBytes, valueIn}
 use Rattle.protobuf.specs.WalkLaws.{along}
@@ -27,63 +29,68 @@ cut-along p (f then w) =
     either (isBytes 4 f) (λ t. simp t (ap (λ (l : List (List ℕ)). valueIn p f ∷ l) (cut-along p w)))
     (λ t. simp t (cut-along p w))
 
-pub cut-topics : (p : List ℕ) → map (cut p) (topicPlaces p) ≡ topicsOf p
+pub cut-topics : (mode : Mode) (p : List ℕ) → map (cut p) (topicPlaces mode p) ≡ topicsOf mode p
 unfolding topicPlaces topicsOf
-cut-topics p = cut-along p (fieldsOf p)
+cut-topics mode p = cut-along p (fieldsOf mode p)
 
 -- as many
-pub places-count : (p : List ℕ) → length (topicPlaces p) ≡ length (topicsOf p)
-places-count p = sym (length-map (topicPlaces p) (cut p)) ∙ ap length (cut-topics p)
+pub places-count : (mode : Mode) (p : List ℕ) → length (topicPlaces mode p) ≡ length (topicsOf mode p)
+places-count mode p = sym (length-map (topicPlaces mode p) (cut p)) ∙ ap length (cut-topics mode p)
 
-pub counts-places : {t : Topics} (p : List ℕ) → t ≡ topicsIn p → t .count ≡ length (topicPlaces p)
-counts-places p e = ap (λ (t : Topics). t .count) e ∙ sym (places-count p)
+pub counts-places : (mode : Mode) {t : Topics} (p : List ℕ) → t ≡ topicsIn mode p
+    → t .count ≡ length (topicPlaces mode p)
+counts-places mode p e = ap (λ (t : Topics). t .count) e ∙ sym (places-count mode p)
 
 -- two results that meet the contract of `topics_of` are the same, the lists too
-pub one-topics : (p a b : List ℕ) (r s : Topics) (a2 b2 a3 b3 : List ℕ) → FindsTopics p a b r a2 b2
-    → FindsTopics p a b s a3 b3 → (r ≡ s) × (a2 ≡ a3) × (b2 ≡ b3)
-one-topics p a b r s a2 b2 a3 b3 x y = (
+pub one-topics : (mode : Mode) (p a b : List ℕ) (r s : Topics) (a2 b2 a3 b3 : List ℕ) → FindsTopics mode p a b r a2 b2
+    → FindsTopics mode p a b s a3 b3 → (r ≡ s) × (a2 ≡ a3) × (b2 ≡ b3)
+one-topics mode p a b r s a2 b2 a3 b3 x y = (
   x .topics ∙ sym (y .topics),
   x .starts ∙ sym (y .starts),
   x .sizes ∙ sym (y .sizes),
 )
 
 -- a message that gives an id has at most four
-pub gives-few : (flags : ℕ) (p i : List ℕ) → givesId flags p i ≡ true → length (topicPlaces p) ≤ 4
+pub gives-few : (flags : ℕ) (p i : List ℕ) → givesId flags p i ≡ true → length (topicPlaces (modeOf flags) p) ≤ 4
 gives-few flags p i h =
     let g = gives-only flags p i h in
     let l = fit-limits flags p true (g .from-start) (g .from-end) (g .seqno-start) (g .seqno-end) (g .taken) in
-    omega (arith, places-count p, l .few)
+    omega (arith, places-count (modeOf flags) p, l .few)
 
 -- each lies within the message
 first-or : (x : ℕ) (l : List ℕ) (n : ℕ) → x ≤ n → ((i : ℕ) → getD l i 0 ≤ n) → (i : ℕ) → getD (x ∷ l) i 0 ≤ n
 first-or x l n h k zero = h
 first-or x l n h k (suc i) = k i
 
-starts-along : (p : List ℕ) (at : ℕ) (i : ℕ) → getD (startsOf (placesAlong (walkAt p at))) i 0 ≤ length p
-starts-along p =
-    along p (λ (at : ℕ) (w : Fields). (i : ℕ) → getD (startsOf (placesAlong w)) i 0 ≤ length p)
+starts-along : (mode : Mode) (p : List ℕ) (at : ℕ) (i : ℕ)
+    → getD (startsOf (placesAlong (walkAt mode p at))) i 0 ≤ length p
+starts-along mode p =
+    along mode p (λ (at : ℕ) (w : Fields). (i : ℕ) → getD (startsOf (placesAlong w)) i 0 ≤ length p)
     (λ at i. omega arith)
     (λ at why r i. omega arith)
     (λ at f st r rest. either (isBytes 4 f)
-    (λ t. simp t (first-or (f .start) (startsOf (placesAlong (walkAt p (f .next)))) (length p) (omega (arith, st .ends, st .within)) rest))
+    (λ t. simp t (first-or (f .start) (startsOf (placesAlong (walkAt mode p (f .next)))) (length p)
+    (omega (arith, st .ends, st .within)) rest))
     (λ t. simp t rest))
 
-sizes-along : (p : List ℕ) (at : ℕ) (i : ℕ) → getD (sizesOf (placesAlong (walkAt p at))) i 0 ≤ length p
-sizes-along p =
-    along p (λ (at : ℕ) (w : Fields). (i : ℕ) → getD (sizesOf (placesAlong w)) i 0 ≤ length p)
+sizes-along : (mode : Mode) (p : List ℕ) (at : ℕ) (i : ℕ)
+    → getD (sizesOf (placesAlong (walkAt mode p at))) i 0 ≤ length p
+sizes-along mode p =
+    along mode p (λ (at : ℕ) (w : Fields). (i : ℕ) → getD (sizesOf (placesAlong w)) i 0 ≤ length p)
     (λ at i. omega arith)
     (λ at why r i. omega arith)
     (λ at f st r rest. either (isBytes 4 f)
-    (λ t. simp t (first-or (f .next - f .start) (sizesOf (placesAlong (walkAt p (f .next)))) (length p) (omega (arith, st .ends, st .within)) rest))
+    (λ t. simp t (first-or (f .next - f .start) (sizesOf (placesAlong (walkAt mode p (f .next)))) (length p)
+    (omega (arith, st .ends, st .within)) rest))
     (λ t. simp t rest))
 
-pub starts-within : (p : List ℕ) (i : ℕ) → getD (startsOf (topicPlaces p)) i 0 ≤ length p
+pub starts-within : (mode : Mode) (p : List ℕ) (i : ℕ) → getD (startsOf (topicPlaces mode p)) i 0 ≤ length p
 unfolding topicPlaces
-starts-within p i = starts-along p 0 i
+starts-within mode p i = starts-along mode p 0 i
 
-pub sizes-within : (p : List ℕ) (i : ℕ) → getD (sizesOf (topicPlaces p)) i 0 ≤ length p
+pub sizes-within : (mode : Mode) (p : List ℕ) (i : ℕ) → getD (sizesOf (topicPlaces mode p)) i 0 ≤ length p
 unfolding topicPlaces
-sizes-within p i = sizes-along p 0 i
+sizes-within mode p i = sizes-along mode p 0 i
 
 -- ---- the same places
 pub same-spans-self : (l : List Span) → sameSpans l l ≡ true
@@ -146,11 +153,12 @@ spans-put a b k l h g =
 
 -- ---- a message with its id and its topics' places
 pub kept-only : (flags : ℕ) (p i : List ℕ) (ts : List Span) → keptWith flags p i ts ≡ true
-    → (givesId flags p i ≡ true) × (ts ≡ topicPlaces p)
+    → (givesId flags p i ≡ true) × (ts ≡ topicPlaces (modeOf flags) p)
 unfolding keptWith
-kept-only flags p i ts h = let b = both _ _ h in (b .0, sym (same-spans-equal (topicPlaces p) ts (b .1)))
+kept-only flags p i ts h = let b = both _ _ h in (b .0, sym (same-spans-equal (topicPlaces (modeOf flags) p) ts (b .1)))
 
-pub kept-own : (flags : ℕ) (p i : List ℕ) (ts : List Span) → givesId flags p i ≡ true → ts ≡ topicPlaces p
+pub kept-own : (flags : ℕ) (p i : List ℕ) (ts : List Span) → givesId flags p i ≡ true
+    → ts ≡ topicPlaces (modeOf flags) p
     → keptWith flags p i ts ≡ true
 unfolding keptWith
-kept-own flags p i ts g e = rw (g, e) (same-spans-self (topicPlaces p))
+kept-own flags p i ts g e = rw (g, e) (same-spans-self (topicPlaces (modeOf flags) p))

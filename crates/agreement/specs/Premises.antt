@@ -27,7 +27,7 @@ pub data Members (flags : ℕ) (set : List (List ℕ)) : List Call → Type 0 wh
   none-left : Members flags set []
   member : {c : Call} {cs : List Call} → MemberAt flags set c → Members flags set cs → Members flags set (c ∷ cs)
 
--- ---- both nodes set alike: the set is then one for both
+-- ---- both nodes set alike, and so in one mode: the set is then one for both
 abbrev pub Alike : Settings → Settings → Type 0
 Alike x y = x .flags ≡ y .flags
 

@@ -5,6 +5,8 @@ use mathlib.Core.Bool.{cond, not, _&&_}
 use mathlib.Core.List.{List, [], _∷_, _++_}
 use lib.ListN.{length}
 use Rattle.basis.specs.declared.Edition.{Edition}
+use Rattle.basis.specs.declared.Mode.{Mode}
+use Rattle.basis.specs.Dialect.{modeOf}
 use Rattle.rows.specs.Ids.{among}
 use Rattle.mcache.specs.Messages.{Cached, topics}
 use Rattle.node.specs.declared.Serve.{Serve}
@@ -13,15 +15,17 @@ use Rattle.node.specs.Calls.{advertiseAnswer, advertiseLeft, askAnswer, askLeft
 use Rattle.history.specs.History.{State, gatewayOf, Settings, Call, advertise, ask, serve, afterAll, toldBytes}
 use Rattle.history.specs.History.{askedBytes, servedBytes, servedMessages, admits}
 
--- ---- "lacks": the messages of a topic that are cached at one gateway and not held by the asker
-unfoldable pub missing : List ℕ → Gateway → List Cached → List Cached
-missing topic asker [] = []
-missing topic asker (c ∷ cs) =
-    cond (among topic (topics c) && not (knows asker (c .id))) (c ∷ missing topic asker cs) (missing topic asker cs)
+-- ---- "lacks": the messages of a topic that are cached at one gateway, which reads them in this mode, and not held by the
+-- asker
+unfoldable pub missing : Mode → List ℕ → Gateway → List Cached → List Cached
+missing mode topic asker [] = []
+missing mode topic asker (c ∷ cs) =
+    cond (among topic (topics mode c) && not (knows asker (c .id))) (c ∷ missing mode topic asker cs)
+    (missing mode topic asker cs)
 
 -- what a lacks of b
 abbrev pub lacked : List ℕ → State → State → List Cached
-lacked topic a b = missing topic (gatewayOf a) (gatewayOf b .cache)
+lacked topic a b = missing (modeOf (gatewayOf b .flags)) topic (gatewayOf a) (gatewayOf b .cache)
 
 -- ---- what rounds are played with: the topic, the windows told of, and the buffers and editions, which are others for
 -- each call of each round; `advert-out k` is lent to the advertise of the k-th round, `admit-edition k i` is its i-th

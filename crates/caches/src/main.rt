@@ -1,7 +1,8 @@
 // Plays records from standard input on the two caches, a line for each: the record's number from 1, the call, the answer. A record is its
 // content's length (u32), its kind (u16) and its content, little-endian. Kinds: 1 seen (rows u16), 2 insert (now u64, ttl u64, max u16, id),
 // 3 clean (now u64), 4 next, 5 contains (id), 6 cache (history_len u16, max_messages u16, next arrival number u64), 7 put (index u16, body),
-// 8 shift, 9 gossip (windows u16, topic), 10 get (id), 16 as 6, and then flags u16, 17 an edition u8 (0 is 1.1, 1 is 1.2), and then as 7.
+// 8 shift, 9 gossip (windows u16, topic), 10 get (id), 16 as 6, and then flags u16 (bit 0: unsigned messages are allowed; bit 1: groups are
+// passed over), 17 an edition u8 (0 is 1.1, 1 is 1.2), and then as 7.
 mod answers;
 mod cache_part;
 mod say;

@@ -108,7 +108,8 @@ bodyPart mode s n (held.Anew j) = heldPart mode (canon mode) n s (held.Anew j)
 bodyPart mode s n (held.Merged j) = cond (hasField mode n s) (bytesField n (mergedOf mode j n s)) []
 
 unfoldable pub canonBody : Dialect → List ℕ → List ℕ
-canonBody d s = allFields (kind.Rpc (d .edition)) (λ n. bodyPart (d .mode) s n (heldOf (rowOf (kind.Rpc (d .edition)) n)))
+canonBody d s =
+    allFields (kind.Rpc (d .edition)) (λ n. bodyPart (d .mode) s n (heldOf (rowOf (kind.Rpc (d .edition)) n)))
 
 -- ---- the bytes that are signed, of a message: `libp2p-pubsub:`, then from, data, seqno and every topic
 unfoldable pub signOf : Mode → List ℕ → List ℕ

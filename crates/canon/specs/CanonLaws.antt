@@ -6,6 +6,7 @@ use mathlib.Core.Bool.{cond}
 use mathlib.Core.List.{List, [], _++_}
 use lib.Dec.{eqb}
 use lib.ListN.{length}
+use Rattle.basis.specs.declared.Mode.{Mode}
 use Rattle.basis.specs.Cases.{either, clash}
 use Rattle.protobuf.specs.Walk.{Fields, end, refused, _then_, fieldsOf, isBytes, valueIn}
 use Rattle.protobuf.specs.Encode.{bytesField}
@@ -33,21 +34,23 @@ same-each g h n s (refused why) e = refl
 same-each g h n s (f then w) e = ap₂ (λ (x y : List ℕ). cond (isBytes n f) x [] ++ y) (e (valueIn s f))
     (same-each g h n s w e)
 
-same-held : (f g : Kind → List ℕ → List ℕ) (n : ℕ) (s : List ℕ) (h : Held)
-    → ((j : Kind) (p : List ℕ) → h ≡ held.Anew j → f j p ≡ g j p) → heldPart f n s h ≡ heldPart g n s h
+same-held : (mode : Mode) (f g : Kind → List ℕ → List ℕ) (n : ℕ) (s : List ℕ) (h : Held)
+    → ((j : Kind) (p : List ℕ) → h ≡ held.Anew j → f j p ≡ g j p) → heldPart mode f n s h ≡ heldPart mode g n s h
 unfolding heldPart
-same-held f g n s held.Nothing e = refl
-same-held f g n s held.Whole e = refl
-same-held f g n s (held.Anew j) e = same-each (λ p. bytesField n (f j p)) (λ p. bytesField n (g j p)) n s (fieldsOf s)
+same-held mode f g n s held.Nothing e = refl
+same-held mode f g n s held.Whole e = refl
+same-held mode f g n s (held.Anew j) e =
+    same-each (λ p. bytesField n (f j p)) (λ p. bytesField n (g j p)) n s (fieldsOf mode s)
     (λ p. ap (bytesField n) (e j p refl))
-same-held f g n s (held.Merged j) e = refl
+same-held mode f g n s (held.Merged j) e = refl
 
-pub canon-fields : (k : Kind) (s : List ℕ) → canon k s ≡ allFields k (partWith canon k s)
+pub canon-fields : (mode : Mode) (k : Kind) (s : List ℕ) → canon mode k s ≡ allFields k (partWith mode (canon mode) k s)
 unfolding canon
-canon-fields k s =
-    unfolds canonStep []
-    (λ f g j p h. same-order (partWith f j p) (partWith g j p)
-    (λ n. ap (λ (x : List ℕ). ownPart (slotsOf j p) n p (rowOf j n) ++ x) (same-held f g n p (heldOf (rowOf j n))
+canon-fields mode k s =
+    unfolds (canonStep mode) []
+    (λ f g j p h. same-order (partWith mode f j p) (partWith mode g j p)
+    (λ n. ap (λ (x : List ℕ). ownPart (slotsOf mode j p) n p (rowOf j n) ++ x)
+    (same-held mode f g n p (heldOf (rowOf j n))
     (λ i q e. h i q (held-rank j i n e)))) 1 (length (table j)))
     k s
 

@@ -11,8 +11,8 @@ use borrow.Author.Tests.{ltb-true, ltb-false, eqb-true, eq-eqb, ne-eqb}
 use Rattle.basis.specs.Cases.{either}
 use Rattle.peer_id.specs.Uvarint.{uvarint}
 use Rattle.peer_id.specs.Laws.{uvarint-small, uvarint-big, uvarint-some}
-use Rattle.protobuf.specs.Grammar.{Payload, number, eight, bytes, four, Entry, Value, varint, i64, len-prefix, i32}
-use Rattle.protobuf.specs.Grammar.{Body, none as no-fields, field}
+use Rattle.protobuf.specs.Grammar.{Payload, number, eight, bytes, group, four, Entry, Value, varint, i64, len-prefix}
+use Rattle.protobuf.specs.Grammar.{i32, BodyIn, none as no-fields, field, a-group}
 use Rattle.protobuf.specs.Encode.{tag, varintField, bytesField}
 use Rattle.protobuf.specs.EncodeLaws.{varint-field-length, bytes-field-length}
 use Rattle.rpc.specs.Grammar.{putNumber, numbersIn, putBytes, bytesIn, orElse, last, Pairs, no-pairs, _paired_}
@@ -65,6 +65,7 @@ abbrev valueLength : ℕ → Payload → ℕ
 valueLength n (number v) = length (varintField n v)
 valueLength n (eight d) = length (tag n 1) + length d
 valueLength n (bytes d) = length (bytesField n d)
+valueLength n (group d) = length (tag n 3) + length d + length (tag n 4)
 valueLength n (four d) = length (tag n 5) + length d
 
 abbrev entriesLength : List Entry → ℕ
@@ -79,12 +80,22 @@ value-length n (i64 g) = refl
 value-length n (len-prefix {d = d} b) = sym (length-append (uvarint (n * 8 + 2)) (uvarint (length d) ++ d))
 value-length n (i32 g) = refl
 
-pub body-length : {s : List ℕ} {es : List Entry} → Body s es → length s ≡ entriesLength es
+group-length : (n : ℕ) (v : List ℕ)
+    → length (uvarint (n * 8 + 3)) + length (v ++ uvarint (n * 8 + 4)) ≡ valueLength n (group v)
+unfolding tag
+group-length n v = omega (arith, length-append v (uvarint (n * 8 + 4)))
+
+pub body-length : {l : ℕ} {s : List ℕ} {es : List Entry} → BodyIn l s es → length s ≡ entriesLength es
 body-length no-fields = refl
 body-length (field {n = n} {type = type} {v = v} {rest = rest} {es = es} l m w r) =
     let a = length-append (uvarint (n * 8 + type)) (v ++ rest) in
     let b = length-append v rest in
     omega (arith, a, b, value-length n w, body-length r)
+body-length (a-group {n = n} {v = v} {rest = rest} {es = es} l m g r) =
+    let w = v ++ uvarint (n * 8 + 4) in
+    let a = length-append (uvarint (n * 8 + 3)) (w ++ rest) in
+    let b = length-append w rest in
+    omega (arith, a, b, group-length n v, body-length r)
 
 -- the lengths of all fields m of bytes, and of numbers
 abbrev pub bytesLength : ℕ → List (List ℕ) → ℕ
@@ -109,6 +120,7 @@ other-entry : (m n : ℕ) (p : Payload) (es : List Entry) → eqb n m ≡ false
 other-entry m n (number v) es t = simp t
 other-entry m n (eight d) es t = refl
 other-entry m n (bytes d) es t = simp t
+other-entry m n (group d) es t = refl
 other-entry m n (four d) es t = refl
 
 this-entry : (m : ℕ) (p : Payload) (es : List Entry)
@@ -116,6 +128,7 @@ this-entry : (m : ℕ) (p : Payload) (es : List Entry)
 this-entry m (number v) es = simp (eq-eqb m m refl) (omega arith)
 this-entry m (eight d) es = omega arith
 this-entry m (bytes d) es = simp (eq-eqb m m refl) (omega arith)
+this-entry m (group d) es = omega arith
 this-entry m (four d) es = omega arith
 
 later-entry : (c n : ℕ) (p : Payload) (es : List Entry) → c < n → spentTo c (record { field = n; payload = p } ∷ es)
@@ -141,8 +154,8 @@ spent-fits (suc c) [] = let r = spent-fits c [] in omega arith
 spent-fits c (e ∷ es) = let l = one-entry c (e .field) (e .payload) es in let r = spent-fits c es in omega arith
 
 -- the fields 1 to c of a body take no more than the body
-pub fields-fit : {s : List ℕ} {es : List Entry} (c : ℕ) → Body s es → spentTo c es ≤ length s
-fields-fit {s} {es} c g = let l = spent-fits c es in omega (arith, body-length g)
+pub fields-fit : {l : ℕ} {s : List ℕ} {es : List Entry} (c : ℕ) → BodyIn l s es → spentTo c es ≤ length s
+fields-fit {s = s} {es = es} c g = let f = spent-fits c es in omega (arith, body-length g)
 
 -- ---- what is written of them
 -- the last of a list is one of them

@@ -1,6 +1,6 @@
 -- To be believed: Messages (`Nth`).
 -- Cited by contracts, and joined to these by theorems: Canon (by Written).
--- Theorems: Written, Shorter, Messages, Taken, Editions.
+-- Theorems: Written, Shorter, Messages, Taken, Editions, Modes.
 -- On the way to them: CanonLaws, Lengths.
 pub mod Canon
 pub mod CanonLaws
@@ -10,3 +10,4 @@ pub mod Messages
 pub mod Written
 pub mod Taken
 pub mod Editions
+pub mod Modes

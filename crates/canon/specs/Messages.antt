@@ -8,6 +8,7 @@ use native.Mathlib.Omega.{arith}
 use lib.ListN.{length}
 use lib.Dec.{eqb}
 use borrow.Author.Tests.{eqb-true, eqb-false}
+use Rattle.basis.specs.declared.Mode.{Mode}
 use Rattle.basis.specs.declared.Dialect.{Dialect}
 use Rattle.basis.specs.Cases.{either, clash}
 use Rattle.protobuf.specs.declared.Field.{Field}
@@ -34,8 +35,8 @@ nth-same here here = refl
 nth-same (there n) (there m) = nth-same n m
 
 -- a message's bytes are those that mean it
-pub raw-is : {p : List ℕ} {m : RawMessage} → IsMessage p m → m .raw ≡ p
-raw-is (is-message g u) = refl
+pub raw-is : (mode : Mode) {p : List ℕ} {m : RawMessage} → IsMessage mode p m → m .raw ≡ p
+raw-is mode (is-message g u) = refl
 
 -- with n messages passed, the message k further on is the element k of those that are left
 list-at : (s : List ℕ) (fs : List Field) (i n k a e : ℕ) → i ≡ n + k → messageAlong i n (whole fs) ≡ At a e
@@ -83,31 +84,33 @@ list-count s (f ∷ fs) i n m l h =
     lt-of n i l z = omega arith
 
 -- ---- in the RPC
-pairs-nth : {ds : List (List ℕ)} {ms : List RawMessage} {i : ℕ} {d : List ℕ} → Pairs IsMessage ds ms → Nth i ds d
-    → (m : RawMessage) × (Nth i ms m) × (IsMessage d m)
-pairs-nth (_paired_ {y = m} p ps) here = (m, here, p)
-pairs-nth (p paired ps) (there n) = let r = pairs-nth ps n in (r .0, there (r .1), r .2)
+pairs-nth : (mode : Mode) {ds : List (List ℕ)} {ms : List RawMessage} {i : ℕ} {d : List ℕ}
+    → Pairs (IsMessage mode) ds ms → Nth i ds d
+    → (m : RawMessage) × (Nth i ms m) × (IsMessage mode d m)
+pairs-nth mode (_paired_ {y = m} p ps) here = (m, here, p)
+pairs-nth mode (p paired ps) (there n) = let r = pairs-nth mode ps n in (r .0, there (r .1), r .2)
 
-pairs-length : {ds : List (List ℕ)} {ms : List RawMessage} → Pairs IsMessage ds ms → length ds ≡ length ms
-pairs-length no-pairs = refl
-pairs-length (p paired ps) = ap suc (pairs-length ps)
+pairs-length : (mode : Mode) {ds : List (List ℕ)} {ms : List RawMessage} → Pairs (IsMessage mode) ds ms
+    → length ds ≡ length ms
+pairs-length mode no-pairs = refl
+pairs-length mode (p paired ps) = ap suc (pairs-length mode ps)
 
 -- the message that is found is that of the RPC
-pub message-found : {d : Dialect} {s : List ℕ} {x : Rpc} (i a e : ℕ) → IsRpc d s x → messageAt s i ≡ At a e
-    → (m : RawMessage) × (Nth i (x .publish) m) × (IsMessage (between s a e) m)
+pub message-found : {d : Dialect} {s : List ℕ} {x : Rpc} (i a e : ℕ) → IsRpc d s x → messageAt (d .mode) s i ≡ At a e
+    → (m : RawMessage) × (Nth i (x .publish) m) × (IsMessage (d .mode) (between s a e) m)
 unfolding messageAt
-message-found i a e (is-rpc {s = s} {es = es} g h1 h2 h3) q =
-    let w = body-walks s es g in
+message-found {d} i a e (is-rpc {s = s} {es = es} g h1 h2 h3) q =
+    let w = body-walks (d .mode) s es g in
     let n = list-at s (w .fields) i 0 i a e (omega arith) (ap (messageAlong i 0) (sym (w .walked)) ∙ q) in
-    pairs-nth h2 (subst (λ (l : List Entry). Nth i (bytesIn 2 l) (between s a e)) (w .entries) n)
+    pairs-nth (d .mode) h2 (subst (λ (l : List Entry). Nth i (bytesIn 2 l) (between s a e)) (w .entries) n)
 
 -- where none is found, the RPC has no message at the index, and its messages are counted
-pub message-missing : {d : Dialect} {s : List ℕ} {x : Rpc} (i n : ℕ) → IsRpc d s x → messageAt s i ≡ Count n
+pub message-missing : {d : Dialect} {s : List ℕ} {x : Rpc} (i n : ℕ) → IsRpc d s x → messageAt (d .mode) s i ≡ Count n
     → (n ≡ length (x .publish)) × (length (x .publish) ≤ i)
 unfolding messageAt
-message-missing i n (is-rpc {s = s} {es = es} g h1 h2 h3) q =
-    let w = body-walks s es g in
+message-missing {d} i n (is-rpc {s = s} {es = es} g h1 h2 h3) q =
+    let w = body-walks (d .mode) s es g in
     let c = list-count s (w .fields) i 0 n (omega arith) (ap (messageAlong i 0) (sym (w .walked)) ∙ q) in
     let k = ap (λ (l : List Entry). length (bytesIn 2 l)) (w .entries) in
-    let l = pairs-length h2 in
+    let l = pairs-length (d .mode) h2 in
     omega (arith, c .0, c .1, k, l)

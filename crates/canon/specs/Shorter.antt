@@ -8,12 +8,13 @@ use native.Mathlib.Omega.{arith}
 use lib.ListN.{length, length-append}
 use lib.Dec.{eqb}
 use borrow.Author.Tests.{eqb-false}
+use Rattle.basis.specs.declared.Mode.{Mode}
 use Rattle.basis.specs.declared.Edition.{Edition}
 use Rattle.basis.specs.declared.Edition.the-variants.{V11, V12}
 use Rattle.basis.specs.declared.Dialect.{Dialect}
 use Rattle.basis.specs.Cases.{either}
 use Rattle.peer_id.specs.Uvarint.{uvarint}
-use Rattle.protobuf.specs.Grammar.{Entry, Body}
+use Rattle.protobuf.specs.Grammar.{Entry, BodyIn}
 use Rattle.protobuf.specs.Encode.{varintField, bytesField}
 use Rattle.protobuf.specs.EncodeLaws.{bytes-field-length}
 use Rattle.rpc.specs.Rpc.{SubOpts, RawMessage, ControlIHave, ControlIWant, ControlGraft, PeerInfo, ControlPrune}
@@ -39,9 +40,10 @@ flag-nonzero : (o : Option ℕ) → optional (λ b. varintField 1 (flag b)) (non
 flag-nonzero none = refl
 flag-nonzero (some v) = refl
 
-pub sub-opts-shorter : (s : List ℕ) (x : SubOpts) → IsSubOpts s x → length (encodeSubOpts x) ≤ length s
+pub sub-opts-shorter : (mode : Mode) (s : List ℕ) (x : SubOpts) → IsSubOpts mode s x
+    → length (encodeSubOpts x) ≤ length s
 unfolding encodeSubOpts
-sub-opts-shorter _ _ (is-sub-opts {s = s} {es = es} g u) =
+sub-opts-shorter mode _ _ (is-sub-opts {s = s} {es = es} g u) =
     let a = fields-fit 2 g in
     let b = last-numbers 1 oneIfSome one-small (numbersIn 1 es) in
     let c = last-bytes 2 (bytesIn 2 es) in
@@ -50,28 +52,30 @@ sub-opts-shorter _ _ (is-sub-opts {s = s} {es = es} g u) =
     (optional (bytesField 2) (last (bytesIn 2 es))) in
     omega arith
 
-pub ihave-shorter : (s : List ℕ) (x : ControlIHave) → IsIHave s x → length (encodeIHave x) ≤ length s
+pub ihave-shorter : (mode : Mode) (s : List ℕ) (x : ControlIHave) → IsIHave mode s x → length (encodeIHave x) ≤ length s
 unfolding encodeIHave
-ihave-shorter _ _ (is-ihave {s = s} {es = es} g u) =
+ihave-shorter mode _ _ (is-ihave {s = s} {es = es} g u) =
     let a = fields-fit 2 g in
     let b = last-bytes 1 (bytesIn 1 es) in
     let c = all-bytes 2 (bytesIn 2 es) in
     let l = length-append (optional (bytesField 1) (last (bytesIn 1 es))) (repeated (bytesField 2) (bytesIn 2 es)) in
     omega arith
 
-pub iwant-shorter : (s : List ℕ) (x : ControlIWant) → IsIWant s x → length (encodeIWant x) ≤ length s
+pub iwant-shorter : (mode : Mode) (s : List ℕ) (x : ControlIWant) → IsIWant mode s x → length (encodeIWant x) ≤ length s
 unfolding encodeIWant
-iwant-shorter _ _ (is-iwant {s = s} {es = es} g) = let a = fields-fit 1 g in let c = all-bytes 1 (bytesIn 1 es) in
+iwant-shorter mode _ _ (is-iwant {s = s} {es = es} g) = let a = fields-fit 1 g in let c = all-bytes 1 (bytesIn 1 es) in
     omega arith
 
-pub graft-shorter : (s : List ℕ) (x : ControlGraft) → IsGraft s x → length (encodeGraft x) ≤ length s
+pub graft-shorter : (mode : Mode) (s : List ℕ) (x : ControlGraft) → IsGraft mode s x → length (encodeGraft x) ≤ length s
 unfolding encodeGraft
-graft-shorter _ _ (is-graft {s = s} {es = es} g u) = let a = fields-fit 1 g in let b = last-bytes 1 (bytesIn 1 es) in
+graft-shorter mode _ _ (is-graft {s = s} {es = es} g u) =
+    let a = fields-fit 1 g in let b = last-bytes 1 (bytesIn 1 es) in
     omega arith
 
-pub peer-info-shorter : (s : List ℕ) (x : PeerInfo) → IsPeerInfo s x → length (encodePeerInfo x) ≤ length s
+pub peer-info-shorter : (mode : Mode) (s : List ℕ) (x : PeerInfo) → IsPeerInfo mode s x
+    → length (encodePeerInfo x) ≤ length s
 unfolding encodePeerInfo
-peer-info-shorter _ _ (is-peer-info {s = s} {es = es} g) =
+peer-info-shorter mode _ _ (is-peer-info {s = s} {es = es} g) =
     let a = fields-fit 2 g in
     let b = last-bytes 1 (bytesIn 1 es) in
     let c = last-bytes 2 (bytesIn 2 es) in
@@ -79,12 +83,12 @@ peer-info-shorter _ _ (is-peer-info {s = s} {es = es} g) =
     (optional (bytesField 2) (last (bytesIn 2 es))) in
     omega arith
 
-pub prune-shorter : (s : List ℕ) (x : ControlPrune) → IsPrune s x → length (encodePrune x) ≤ length s
+pub prune-shorter : (mode : Mode) (s : List ℕ) (x : ControlPrune) → IsPrune mode s x → length (encodePrune x) ≤ length s
 unfolding encodePrune
-prune-shorter _ _ (is-prune {s = s} {es = es} {ps = ps} g u h) =
+prune-shorter mode _ _ (is-prune {s = s} {es = es} {ps = ps} g u h) =
     let a = fields-fit 3 g in
     let b = last-bytes 1 (bytesIn 1 es) in
-    let c = all-subs 2 encodePeerInfo peer-info-shorter h in
+    let c = all-subs 2 encodePeerInfo (peer-info-shorter mode) h in
     let d = last-numbers 3 (λ v. v) (λ v. omega arith) (numbersIn 3 es) in
     let r = repeated (λ p. bytesField 2 (encodePeerInfo p)) ps in
     let n = optional (varintField 3) (last (numbersIn 3 es)) in
@@ -92,17 +96,19 @@ prune-shorter _ _ (is-prune {s = s} {es = es} {ps = ps} g u h) =
     let l = length-append r n in
     omega arith
 
-pub idontwant-shorter : (s : List ℕ) (x : ControlIDontWant) → IsIDontWant s x → length (encodeIDontWant x) ≤ length s
+pub idontwant-shorter : (mode : Mode) (s : List ℕ) (x : ControlIDontWant) → IsIDontWant mode s x
+    → length (encodeIDontWant x) ≤ length s
 unfolding encodeIDontWant
-idontwant-shorter _ _ (is-idontwant {s = s} {es = es} g) =
+idontwant-shorter mode _ _ (is-idontwant {s = s} {es = es} g) =
     let a = fields-fit 1 g in let c = all-bytes 1 (bytesIn 1 es) in
     omega arith
 
 -- the entries that an edition adds
-added-shorter : {ds : List ControlIDontWant} (e : Edition) (es : List Entry) → Pairs IsIDontWant (idontwantsIn e es) ds
+added-shorter : (mode : Mode) {ds : List ControlIDontWant} (e : Edition) (es : List Entry)
+    → Pairs (IsIDontWant mode) (idontwantsIn e es) ds
     → length (repeated (λ d. bytesField 5 (encodeIDontWant d)) ds) ≤ bytesLength 5 (bytesIn 5 es)
-added-shorter V11 es no-pairs = omega arith
-added-shorter V12 es h = all-subs 5 encodeIDontWant idontwant-shorter h
+added-shorter mode V11 es no-pairs = omega arith
+added-shorter mode V12 es h = all-subs 5 encodeIDontWant (idontwant-shorter mode) h
 
 control-length : (x : ControlMessage)
     → length (encodeControl x) ≡ length (repeated (λ h. bytesField 1 (encodeIHave h)) (x .ihave)) + length
@@ -128,11 +134,11 @@ pub control-shorter : (d : Dialect) (s : List ℕ) (x : ControlMessage) → IsCo
 control-shorter d _ _
     (is-control {s = s} {es = es} {hs = hs} {ws = ws} {gs = gs} {ps = ps} {ds = ds} g h1 h2 h3 h4 h5) =
     let a = fields-fit 5 g in
-    let b1 = all-subs 1 encodeIHave ihave-shorter h1 in
-    let b2 = all-subs 2 encodeIWant iwant-shorter h2 in
-    let b3 = all-subs 3 encodeGraft graft-shorter h3 in
-    let b4 = all-subs 4 encodePrune prune-shorter h4 in
-    let b5 = added-shorter (d .edition) es h5 in
+    let b1 = all-subs 1 encodeIHave (ihave-shorter (d .mode)) h1 in
+    let b2 = all-subs 2 encodeIWant (iwant-shorter (d .mode)) h2 in
+    let b3 = all-subs 3 encodeGraft (graft-shorter (d .mode)) h3 in
+    let b4 = all-subs 4 encodePrune (prune-shorter (d .mode)) h4 in
+    let b5 = added-shorter (d .mode) (d .edition) es h5 in
     let l = control-length (record { ihave = hs; iwant = ws; graft = gs; prune = ps; idontwant = ds }) in
     omega arith
 
@@ -186,8 +192,8 @@ signedFields es =
     ++ (optional (bytesField 2) (last (bytesIn 2 es))
     ++ (optional (bytesField 3) (last (bytesIn 3 es)) ++ repeated (bytesField 4) (bytesIn 4 es)))
 
-pub signed-shorter : {s : List ℕ} {es : List Entry} → Body s es → length (signedFields es) ≤ length s
-signed-shorter {s} {es} g =
+pub signed-shorter : {l : ℕ} {s : List ℕ} {es : List Entry} → BodyIn l s es → length (signedFields es) ≤ length s
+signed-shorter {s = s} {es = es} g =
     let x1 = optional (bytesField 1) (last (bytesIn 1 es)) in
     let x2 = optional (bytesField 2) (last (bytesIn 2 es)) in
     let x3 = optional (bytesField 3) (last (bytesIn 3 es)) in
@@ -200,15 +206,15 @@ signed-shorter {s} {es} g =
     omega (arith, length-append x1 (x2 ++ (x3 ++ x4)), length-append x2 (x3 ++ x4), length-append x3 x4)
 
 -- ---- the RPC
-pub raw-same : (d : List ℕ) (m : RawMessage) → IsMessage d m → length (m .raw) ≤ length d
-raw-same _ _ (is-message g u) = omega arith
+pub raw-same : (mode : Mode) (d : List ℕ) (m : RawMessage) → IsMessage mode d m → length (m .raw) ≤ length d
+raw-same mode _ _ (is-message g u) = omega arith
 
 pub never-longer : {d : Dialect} {s : List ℕ} {x : Rpc} → IsRpc d s x → length (encodeRpc x) ≤ length s
 unfolding encodeRpc
 never-longer {d} (is-rpc {s = s} {es = es} {ss = ss} {ms = ms} {cs = cs} g h1 h2 h3) =
     let a = fields-fit 3 g in
-    let b1 = all-subs 1 encodeSubOpts sub-opts-shorter h1 in
-    let b2 = all-subs 2 (λ m. m .raw) raw-same h2 in
+    let b1 = all-subs 1 encodeSubOpts (sub-opts-shorter (d .mode)) h1 in
+    let b2 = all-subs 2 (λ m. m .raw) (raw-same (d .mode)) h2 in
     let b3 = all-subs 3 encodeControl (control-shorter d) h3 in
     let j = joined-field cs in
     let x1 = repeated (λ o. bytesField 1 (encodeSubOpts o)) ss in

@@ -74,9 +74,10 @@ output-shorter {d} {s} w = subst (λ (b : List ℕ). length b ≤ length s) (sym
 pub taken-shorter : (d : Dialect) (s : List ℕ) → Bytes s → acceptOf d s ≡ Fine → length (canonBody d s) ≤ length s
 taken-shorter d s b h = let t = only-taken d s b h in output-shorter (t .1)
 
-pub signed-shorter : (d : Dialect) (s : List ℕ) (i a e : ℕ) → Bytes s → acceptOf d s ≡ Fine → messageAt s i ≡ At a e
-    → length (canon kind.RawMessage (between s a e)) ≤ length (between s a e)
+pub signed-shorter : (d : Dialect) (s : List ℕ) (i a e : ℕ) → Bytes s → acceptOf d s ≡ Fine
+    → messageAt (d .mode) s i ≡ At a e
+    → length (canon (d .mode) kind.RawMessage (between s a e)) ≤ length (between s a e)
 signed-shorter d s i a e b h q =
     let t = only-taken d s b h in
     let f = message-found i a e (t .1 .means) q in
-    message-shorter (f .2)
+    message-shorter (d .mode) (f .2)

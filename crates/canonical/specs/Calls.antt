@@ -1,8 +1,8 @@
 -- What the calls that write tell and leave, by the scope's numbers and the values beside them, said of the RPC that the
--- body means and of nothing else, one exact theorem for each call. A body is refused by 10, 1 to 7 or 11 and nothing is
--- changed, or it means an RPC within capacity. Then `encode` writes that RPC, `sign_bytes` what is signed of its
--- message i, `message_id` and `seen_message_id` that message's id; 20 where there is no message i; 12 where there is no
--- room.
+-- body means and of nothing else, one exact theorem for each call. A body is refused by 10, by 1 to 7, by 14 to 16
+-- where groups are passed over, or by 11, and nothing is changed; or it means an RPC within capacity. Then `encode`
+-- writes that RPC, `sign_bytes` what is signed of its message i, `message_id` and `seen_message_id` that message's id;
+-- 20 where there is no message i; 12 where there is no room.
 use Prim.Native.Nat.{ℕ, _+_, _-_, _≤_, _<_}
 use mathlib.Core.Path.{_≡_, refl, sym, ap, ap₂, subst, _∙_}
 use mathlib.Core.Bool.{_||_}
@@ -14,6 +14,7 @@ use native.Mathlib.Nat.{zero-add}
 use lib.ListN.{length, drop}
 use lib.Dec.{ltb, leb, eqb}
 use borrow.Author.Tests.{leb-true, leb-false, le-leb, lt-leb}
+use Rattle.basis.specs.declared.Mode.{Mode}
 use Rattle.basis.specs.declared.Dialect.{Dialect}
 use Rattle.basis.specs.Cases.{either}
 use Rattle.basis.specs.Bytes.{Bytes}
@@ -126,15 +127,16 @@ module _ (d : Dialect) (s out : List ℕ) (b : Bytes s) (R : Rpc → Told → Li
   given Fine e = let w = taken-exactly d s b .0 e in takes (w .1) (fine (w .0) (w .1))
 
   -- it is 0, 12 or more exactly where the body means an RPC within capacity
-  given-takes : ((x : Rpc) (a : Told) (l : List ℕ) → R x a l → Gated (a .number) → ⊥)
-      → (Gated (tell (acceptOf d s) .number) → ⊥) ↔ ((x : Rpc) × Within d s x)
+  given-takes : ((x : Rpc) (a : Told) (l : List ℕ) → R x a l → Gated (d .mode) (a .number) → ⊥)
+      → (Gated (d .mode) (tell (acceptOf d s) .number) → ⊥) ↔ ((x : Rpc) × Within d s x)
   given-takes other = (λ h. forth h (given (acceptOf d s) refl), λ w g. back (w .1) g (given (acceptOf d s) refl))
     where
-      forth : {a : Told} {l : List ℕ} → (Gated (a .number) → ⊥) → Given d s out R a l → (x : Rpc) × Within d s x
+      forth : {a : Told} {l : List ℕ} → (Gated (d .mode) (a .number) → ⊥) → Given d s out R a l
+          → (x : Rpc) × Within d s x
       forth h (refuses r) = absurd (h (refusal-gated r))
       forth h (takes {x} w r) = (x, w)
 
-      back : {x : Rpc} {a : Told} {l : List ℕ} → Within d s x → Gated (a .number) → Given d s out R a l → ⊥
+      back : {x : Rpc} {a : Told} {l : List ℕ} → Within d s x → Gated (d .mode) (a .number) → Given d s out R a l → ⊥
       back w g (refuses r) = refusal-within r w
       back {a = a} {l = l} w g (takes {x} v r) = other x a l r g
 
@@ -168,7 +170,8 @@ encode-only {d} {s} {x} {a} {l} out w r =
     (sym (canon-written (w .means)))
     (writes-only (λ z. encodedTold (ofWritten z)) (λ n. refl) (λ n. refl) (encodeRpc x) out r)
 
-writes-other : {xs out : List ℕ} {a : Told} {l : List ℕ} → Writes xs out a l → Gated (a .number) → ⊥
+writes-other : {mode : Mode} {xs out : List ℕ} {a : Told} {l : List ℕ} → Writes xs out a l
+    → Gated mode (a .number) → ⊥
 writes-other (fits h) g = let z = gated-bound g in omega (arith, z .0)
 writes-other (short h) g = let z = gated-bound g in omega (arith, z .1)
 
@@ -180,8 +183,9 @@ encode-exactly d s out a l b =
     given-exactly d s out b (λ x. Writes (encodeRpc x) out) (λ c. encodedTold (encodeChecked d s out c))
     (encodedChecked d s out) (λ why. refl) (λ why. refl) (λ x. encode-fine out) (λ x z k. encode-only out) a l
 
--- it tells none of 10, 1 to 7 and 11 exactly where the body means an RPC within capacity
-pub encode-takes : (d : Dialect) (s out : List ℕ) → Bytes s → (Gated (encodedTold (encodeAnswer d s out) .number) → ⊥)
+-- it tells none of these refusals exactly where the body means an RPC within capacity
+pub encode-takes : (d : Dialect) (s out : List ℕ) → Bytes s
+    → (Gated (d .mode) (encodedTold (encodeAnswer d s out) .number) → ⊥)
     ↔ ((x : Rpc) × Within d s x)
 unfolding encodeAnswer
 encode-takes d s out b =
@@ -192,15 +196,15 @@ encode-takes d s out b =
 -- ---- the message at an index
 -- where message i of the RPC stands in the body
 pub found-in : {d : Dialect} {s : List ℕ} {x : Rpc} {m : RawMessage} (i : ℕ) (r : MessageAt) → IsRpc d s x
-    → Nth i (x .publish) m → messageAt s i ≡ r
-    → (a : ℕ) × (e : ℕ) × (messageAt s i ≡ At a e) × (IsMessage (between s a e) m)
-found-in {s = s} i (At a e) g n q =
+    → Nth i (x .publish) m → messageAt (d .mode) s i ≡ r
+    → (a : ℕ) × (e : ℕ) × (messageAt (d .mode) s i ≡ At a e) × (IsMessage (d .mode) (between s a e) m)
+found-in {d} {s} i (At a e) g n q =
     let f = message-found i a e g q in
-    (a, e, q, subst (λ (y : RawMessage). IsMessage (between s a e) y) (nth-same (f .1) n) (f .2))
+    (a, e, q, subst (λ (y : RawMessage). IsMessage (d .mode) (between s a e) y) (nth-same (f .1) n) (f .2))
 found-in i (Count k) g n q = let l = message-missing i k g q in let b = nth-bound n in absurd (omega arith)
 
 pub none-in : {d : Dialect} {s : List ℕ} {x : Rpc} (i : ℕ) (r : MessageAt) → IsRpc d s x
-    → length (x .publish) ≤ i → messageAt s i ≡ r → messageAt s i ≡ Count (length (x .publish))
+    → length (x .publish) ≤ i → messageAt (d .mode) s i ≡ r → messageAt (d .mode) s i ≡ Count (length (x .publish))
 none-in i (At a e) g l q = let f = message-found i a e g q in let b = nth-bound (f .1) in absurd (omega arith)
 none-in i (Count k) g l q = let m = message-missing i k g q in q ∙ ap Count (m .0)
 
@@ -208,8 +212,9 @@ none-in i (Count k) g l q = let m = message-missing i k g q in q ∙ ap Count (m
 module _ {d : Dialect} {s : List ℕ} {x : Rpc} (w : Within d s x) (i : ℕ) (out : List ℕ)
     (R : RawMessage → Told → List ℕ → Type 0) (tell : MessageAt → Told) (left : MessageAt → List ℕ)
     (tell-none : (n : ℕ) → tell (Count n) ≡ told no-message (n ∷ [])) (left-none : (n : ℕ) → left (Count n) ≡ out) where
-  of-message : ((a e : ℕ) (m : RawMessage) → IsMessage (between s a e) m → R m (tell (At a e)) (left (At a e)))
-      → (r : MessageAt) → messageAt s i ≡ r → OfMessage i (x .publish) out R (tell r) (left r)
+  of-message : ((a e : ℕ) (m : RawMessage) → IsMessage (d .mode) (between s a e) m
+      → R m (tell (At a e)) (left (At a e)))
+      → (r : MessageAt) → messageAt (d .mode) s i ≡ r → OfMessage i (x .publish) out R (tell r) (left r)
   of-message fine (At a e) q = let f = message-found i a e (w .means) q in such (f .1) (fine a e (f .0) (f .2))
   of-message fine (Count n) q =
       let m = message-missing i n (w .means) q in
@@ -218,40 +223,44 @@ module _ {d : Dialect} {s : List ℕ} {x : Rpc} (w : Within d s x) (i : ℕ) (ou
       (subst (λ (l : List ℕ). OfMessage i (x .publish) out R (told no-message (length (x .publish) ∷ [])) l)
       (sym (left-none n)) (no-such (m .1)))
 
-  of-message-only : {z : Told} {l : List ℕ} → ((a e : ℕ) (m : RawMessage) → IsMessage (between s a e) m → R m z l
+  of-message-only : {z : Told} {l : List ℕ}
+      → ((a e : ℕ) (m : RawMessage) → IsMessage (d .mode) (between s a e) m → R m z l
       → (tell (At a e) ≡ z) × (left (At a e) ≡ l)) → OfMessage i (x .publish) out R z l
-      → (tell (messageAt s i) ≡ z) × (left (messageAt s i) ≡ l)
+      → (tell (messageAt (d .mode) s i) ≡ z) × (left (messageAt (d .mode) s i) ≡ l)
   of-message-only only (no-such h) =
-      let f = none-in i (messageAt s i) (w .means) h refl in
+      let f = none-in i (messageAt (d .mode) s i) (w .means) h refl in
       (ap tell f ∙ tell-none (length (x .publish)), ap left f ∙ left-none (length (x .publish)))
   of-message-only only (such {m} n r) =
-      let f = found-in i (messageAt s i) (w .means) n refl in
+      let f = found-in i (messageAt (d .mode) s i) (w .means) n refl in
       let g = only (f .0) (f .1) m (f .3) r in
       (ap tell (f .2) ∙ g .0, ap left (f .2) ∙ g .1)
 
 -- ---- sign_bytes
 module _ {d : Dialect} {s : List ℕ} {x : Rpc} (i : ℕ) (out : List ℕ) (w : Within d s x) where
-  sign-fine : OfMessage i (x .publish) out (λ m. Writes (signBytes m) out) (messageTold (signAt s out (messageAt s i)))
-      (signedAt s out (messageAt s i))
+  sign-fine : OfMessage i (x .publish) out (λ m. Writes (signBytes m) out)
+      (messageTold (signAt (d .mode) s out (messageAt (d .mode) s i)))
+      (signedAt (d .mode) s out (messageAt (d .mode) s i))
   sign-fine =
-      of-message w i out (λ m. Writes (signBytes m) out) (λ r. messageTold (signAt s out r)) (signedAt s out)
-      (λ n. refl) (λ n. refl)
+      of-message w i out (λ m. Writes (signBytes m) out) (λ r. messageTold (signAt (d .mode) s out r))
+      (signedAt (d .mode) s out) (λ n. refl) (λ n. refl)
       (λ a e m g. subst (λ (bs : List ℕ). Writes (signBytes m) out (messageTold (message (answer bs out)))
-      (written bs out)) (sym (sign-written g))
-      (writes (λ z. messageTold (message z)) (λ n. refl) (λ n. refl) (signBytes m) out)) (messageAt s i) refl
+      (written bs out)) (sym (sign-written (d .mode) g))
+      (writes (λ z. messageTold (message z)) (λ n. refl) (λ n. refl) (signBytes m) out)) (messageAt (d .mode) s i) refl
 
   sign-only : {t : Told} {l : List ℕ} → OfMessage i (x .publish) out (λ m. Writes (signBytes m) out) t l
-      → (messageTold (signAt s out (messageAt s i)) ≡ t) × (signedAt s out (messageAt s i) ≡ l)
+      → (messageTold (signAt (d .mode) s out (messageAt (d .mode) s i)) ≡ t)
+      × (signedAt (d .mode) s out (messageAt (d .mode) s i) ≡ l)
   sign-only {t} {l} =
-      of-message-only w i out (λ m. Writes (signBytes m) out) (λ r. messageTold (signAt s out r)) (signedAt s out)
-      (λ n. refl) (λ n. refl)
+      of-message-only w i out (λ m. Writes (signBytes m) out) (λ r. messageTold (signAt (d .mode) s out r))
+      (signedAt (d .mode) s out) (λ n. refl) (λ n. refl)
       (λ a e m g r. subst (λ (bs : List ℕ). (messageTold (message (answer bs out)) ≡ t) × (written bs out ≡ l))
-      (sym (sign-written g))
+      (sym (sign-written (d .mode) g))
       (writes-only (λ z. messageTold (message z)) (λ n. refl) (λ n. refl) (signBytes m) out r))
 
-of-message-other : {i : ℕ} {ms : List RawMessage} {out : List ℕ} {R : RawMessage → Told → List ℕ → Type 0} {a : Told}
-    {l : List ℕ} → ((m : RawMessage) (z : Told) (k : List ℕ) → R m z k → Gated (z .number) → ⊥)
-    → OfMessage i ms out R a l → Gated (a .number) → ⊥
+of-message-other : {mode : Mode} {i : ℕ} {ms : List RawMessage} {out : List ℕ}
+    {R : RawMessage → Told → List ℕ → Type 0} {a : Told} {l : List ℕ}
+    → ((m : RawMessage) (z : Told) (k : List ℕ) → R m z k → Gated mode (z .number) → ⊥)
+    → OfMessage i ms out R a l → Gated mode (a .number) → ⊥
 of-message-other other (no-such h) g = let z = gated-bound g in omega (arith, z .1)
 of-message-other {a = a} {l = l} other (such {m} n r) g = other m a l r g
 
@@ -261,15 +270,15 @@ pub sign-exactly : (d : Dialect) (s : List ℕ) (i : ℕ) (out : List ℕ) (a : 
 unfolding signAnswer signLeft
 sign-exactly d s i out a l b =
     given-exactly d s out b (λ x. OfMessage i (x .publish) out (λ m. Writes (signBytes m) out))
-    (λ c. messageTold (signChecked s i out c)) (signedChecked s i out) (λ why. refl) (λ why. refl)
+    (λ c. messageTold (signChecked (d .mode) s i out c)) (signedChecked (d .mode) s i out) (λ why. refl) (λ why. refl)
     (λ x. sign-fine i out) (λ x z k w q. sign-only i out w q) a l
 
 pub sign-takes : (d : Dialect) (s : List ℕ) (i : ℕ) (out : List ℕ) → Bytes s
-    → (Gated (messageTold (signAnswer d s i out) .number) → ⊥) ↔ ((x : Rpc) × Within d s x)
+    → (Gated (d .mode) (messageTold (signAnswer d s i out) .number) → ⊥) ↔ ((x : Rpc) × Within d s x)
 unfolding signAnswer
 sign-takes d s i out b =
     given-takes d s out b (λ x. OfMessage i (x .publish) out (λ m. Writes (signBytes m) out))
-    (λ c. messageTold (signChecked s i out c)) (signedChecked s i out) (λ why. refl) (λ why. refl)
+    (λ c. messageTold (signChecked (d .mode) s i out c)) (signedChecked (d .mode) s i out) (λ why. refl) (λ why. refl)
     (λ x. sign-fine i out) (λ x z k. of-message-other (λ m y j. writes-other))
 
 -- ---- message_id and seen_message_id, with what stands before the id
@@ -316,43 +325,47 @@ from-same p (place.Present a e) q h k =
     ∙ ap (λ (o : Option (List ℕ)). withFrom o (bytesAt p 0 q)) (sym (bytes-there p a e))
 
 -- the places of from and seqno hold the id of the message that the bytes mean
-id-same : {p : List ℕ} {m : RawMessage} → IsMessage p m → toId p (idParts p) ≡ messageId m
+id-same : (mode : Mode) {p : List ℕ} {m : RawMessage} → IsMessage mode p m → toId p (idParts mode p) ≡ messageId m
 unfolding idParts messageId
-id-same (is-message {s = p} {es = es} g u) =
-    let w = body-walks p es g in
-    let i = slots-inside kind.RawMessage p in
-    from-same p (slotsOf kind.RawMessage p .first) (slotsOf kind.RawMessage p .third) (i .first) (i .third)
+id-same mode (is-message {s = p} {es = es} g u) =
+    let w = body-walks mode p es g in
+    let i = slots-inside mode kind.RawMessage p in
+    from-same p (slotsOf mode kind.RawMessage p .first) (slotsOf mode kind.RawMessage p .third) (i .first) (i .third)
     ∙ ap₂ withFrom
-    (slot-value p 0 p kind.RawMessage (λ t. t .first) 1 (w .fields) es (whole-part p) message-from (w .walked)
+    (slot-value mode p 0 p kind.RawMessage (λ t. t .first) 1 (w .fields) es (whole-part p) message-from (w .walked)
     (w .entries) refl)
-    (slot-value p 0 p kind.RawMessage (λ t. t .third) 3 (w .fields) es (whole-part p) message-seqno (w .walked)
+    (slot-value mode p 0 p kind.RawMessage (λ t. t .third) 3 (w .fields) es (whole-part p) message-seqno (w .walked)
     (w .entries) refl)
 
 -- by the places of from and seqno
-pub id-named : {p : List ℕ} {m : RawMessage} (a e b f : ℕ) → IsMessage p m → idParts p ≡ parts.Parts a e b f
+pub id-named : (mode : Mode) {p : List ℕ} {m : RawMessage} (a e b f : ℕ) → IsMessage mode p m
+    → idParts mode p ≡ parts.Parts a e b f
     → messageId m ≡ id (between p a e ++ between p b f)
-id-named {p} a e b f i q = sym (id-same i) ∙ ap (toId p) q
+id-named mode {p} a e b f i q = sym (id-same mode i) ∙ ap (toId p) q
 
 module _ {d : Dialect} {s : List ℕ} {x : Rpc} (pre : List ℕ) (i : ℕ) (out : List ℕ) (w : Within d s x) where
   id-fine : OfMessage i (x .publish) out (λ m. WritesId pre out (messageId m))
-      (messageTold (answerAt pre s out (messageAt s i))) (leftAt pre s out (messageAt s i))
+      (messageTold (answerAt (d .mode) pre s out (messageAt (d .mode) s i)))
+      (leftAt (d .mode) pre s out (messageAt (d .mode) s i))
   id-fine =
-      of-message w i out (λ m. WritesId pre out (messageId m)) (λ r. messageTold (answerAt pre s out r))
-      (leftAt pre s out) (λ n. refl) (λ n. refl)
+      of-message w i out (λ m. WritesId pre out (messageId m)) (λ r. messageTold (answerAt (d .mode) pre s out r))
+      (leftAt (d .mode) pre s out) (λ n. refl) (λ n. refl)
       (λ a e m g. subst (λ (n : Id). WritesId pre out n
-      (messageTold (answerId pre (between s a e) out (idParts (between s a e))))
-      (leftId pre (between s a e) out (idParts (between s a e)))) (id-same g)
-      (id-gives pre (between s a e) out (idParts (between s a e)))) (messageAt s i) refl
+      (messageTold (answerId pre (between s a e) out (idParts (d .mode) (between s a e))))
+      (leftId pre (between s a e) out (idParts (d .mode) (between s a e)))) (id-same (d .mode) g)
+      (id-gives pre (between s a e) out (idParts (d .mode) (between s a e)))) (messageAt (d .mode) s i) refl
 
   id-told : {t : Told} {l : List ℕ} → OfMessage i (x .publish) out (λ m. WritesId pre out (messageId m)) t l
-      → (messageTold (answerAt pre s out (messageAt s i)) ≡ t) × (leftAt pre s out (messageAt s i) ≡ l)
+      → (messageTold (answerAt (d .mode) pre s out (messageAt (d .mode) s i)) ≡ t)
+      × (leftAt (d .mode) pre s out (messageAt (d .mode) s i) ≡ l)
   id-told {t} {l} =
-      of-message-only w i out (λ m. WritesId pre out (messageId m)) (λ r. messageTold (answerAt pre s out r))
-      (leftAt pre s out) (λ n. refl) (λ n. refl)
-      (λ a e m g r. id-only pre (between s a e) out (idParts (between s a e))
-      (subst (λ (n : Id). WritesId pre out n t l) (sym (id-same g)) r))
+      of-message-only w i out (λ m. WritesId pre out (messageId m)) (λ r. messageTold (answerAt (d .mode) pre s out r))
+      (leftAt (d .mode) pre s out) (λ n. refl) (λ n. refl)
+      (λ a e m g r. id-only pre (between s a e) out (idParts (d .mode) (between s a e))
+      (subst (λ (n : Id). WritesId pre out n t l) (sym (id-same (d .mode) g)) r))
 
-id-other : {pre out : List ℕ} {n : Id} {a : Told} {l : List ℕ} → WritesId pre out n a l → Gated (a .number) → ⊥
+id-other : {mode : Mode} {pre out : List ℕ} {n : Id} {a : Told} {l : List ℕ} → WritesId pre out n a l
+    → Gated mode (a .number) → ⊥
 id-other from-missing g = let z = gated-bound g in omega (arith, z .1)
 id-other from-invalid g = let z = gated-bound g in omega (arith, z .1)
 id-other seqno-invalid g = let z = gated-bound g in omega (arith, z .1)
@@ -364,13 +377,15 @@ pub id-exactly : (pre : List ℕ) (d : Dialect) (s : List ℕ) (i : ℕ) (out : 
 unfolding idAnswer idLeft
 id-exactly pre d s i out a l b =
     given-exactly d s out b (λ x. OfMessage i (x .publish) out (λ m. WritesId pre out (messageId m)))
-    (λ c. messageTold (answerChecked pre s i out c)) (leftChecked pre s i out) (λ why. refl) (λ why. refl)
+    (λ c. messageTold (answerChecked (d .mode) pre s i out c)) (leftChecked (d .mode) pre s i out)
+    (λ why. refl) (λ why. refl)
     (λ x. id-fine pre i out) (λ x z k w q. id-told pre i out w q) a l
 
 pub id-takes : (pre : List ℕ) (d : Dialect) (s : List ℕ) (i : ℕ) (out : List ℕ) → Bytes s
-    → (Gated (messageTold (idAnswer pre d s i out) .number) → ⊥) ↔ ((x : Rpc) × Within d s x)
+    → (Gated (d .mode) (messageTold (idAnswer pre d s i out) .number) → ⊥) ↔ ((x : Rpc) × Within d s x)
 unfolding idAnswer
 id-takes pre d s i out b =
     given-takes d s out b (λ x. OfMessage i (x .publish) out (λ m. WritesId pre out (messageId m)))
-    (λ c. messageTold (answerChecked pre s i out c)) (leftChecked pre s i out) (λ why. refl) (λ why. refl)
+    (λ c. messageTold (answerChecked (d .mode) pre s i out c)) (leftChecked (d .mode) pre s i out)
+    (λ why. refl) (λ why. refl)
     (λ x. id-fine pre i out) (λ x z k. of-message-other (λ m y j. id-other))

@@ -1,5 +1,6 @@
 -- With the flag that allows unsigned messages off, what is weighed, answered and left is what it was before there were flags: each definition that reads them equals
 -- the one it was, which stands here. Under any flags a message with a signature is weighed as it was; and flags that are not known are 40, before everything else.
+-- The other flag, the mode in which a gateway reads, changes nothing.
 use Prim.Native.Nat.{ℕ}
 use mathlib.Core.Path.{_≡_, refl, ap, ap₂, _∙_}
 use mathlib.Core.Bool.{Bool, true, false}
@@ -97,3 +98,26 @@ module _ (flags : ℕ) (t b : List ℕ) where
     pub left-off : (out : List ℕ) → writeLeft flags t b out ≡ leftWas t b out
     unfolding writeLeft leftWas
     left-off out = rw tested-off
+
+-- ---- known flags that allow the same of unsigned messages are alike, whatever mode is among them
+module _ (f g : ℕ) (same : allowsUnsigned f ≡ allowsUnsigned g) where
+  pub weighed-alike : (m : RawMessage) → weighed f m ≡ weighed g m
+  unfolding weighed
+  weighed-alike m = rw same
+
+  pub unfit-alike : (ms : List RawMessage) → firstUnfit f ms ≡ firstUnfit g ms
+  unfit-alike [] = refl
+  unfit-alike (m ∷ ms) = ap₂ andThen (weighed-alike m) (unfit-alike ms)
+
+  module _ (t b : List ℕ) (f-known : knownFlags f ≡ true) (g-known : knownFlags g ≡ true) where
+    pub tested-alike : writeTested f t b ≡ writeTested g t b
+    unfolding writeTested flagsFine
+    tested-alike = simp (f-known, g-known, unfit-alike (messagesIn b (lentRows t)))
+
+    pub answer-alike : (out : List ℕ) → writeAnswer f t b out ≡ writeAnswer g t b out
+    unfolding writeAnswer
+    answer-alike out = rw tested-alike
+
+    pub left-alike : (out : List ℕ) → writeLeft f t b out ≡ writeLeft g t b out
+    unfolding writeLeft
+    left-alike out = rw tested-alike

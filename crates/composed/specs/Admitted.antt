@@ -1,7 +1,7 @@
 -- As in admission: under every flags a message with a signature is refused exactly as admission refuses its bytes, the host's word given; and one without, where the
 -- flags allow it, as admission refuses its bytes, whatever the word. So every message of what is written is admitted. Where they do not, a message without a signature is
 -- refused by 21, 22, 34, 23, or by 26 with 0. 25 and 27 are never given, and 24 only with the flag on, for a key without a signature.
-use Prim.Native.Nat.{ℕ, _-_, _^_, _<_}
+use Prim.Native.Nat.{ℕ, _-_, _^_, _≤_, _<_}
 use mathlib.Core.Path.{_≡_, refl, sym, ap, subst, _∙_}
 use mathlib.Core.Bool.{Bool, true, false, cond, _||_}
 use mathlib.Core.List.{List, [], _∷_, map}
@@ -10,11 +10,15 @@ use mathlib.Core.Logic.{_↔_}
 use native.Mathlib.Omega.{arith}
 use lib.ListN.{length}
 use lib.Dec.{ltb, eqb}
+use borrow.Author.Tests.{ltb-false}
+use Rattle.basis.specs.declared.Mode.{Mode}
+use Rattle.basis.specs.Dialect.{modeOf}
 use Rattle.basis.specs.declared.Dialect.{Dialect}
 use Rattle.basis.specs.Bytes.{Bytes}
 use Rattle.basis.specs.Cases.{either, clash}
 use Rattle.basis.specs.Refusals.{missing-from, invalid-from, not-peer-id, invalid-seqno, key-without-signature}
 use Rattle.basis.specs.Refusals.{invalid-signature-length, invalid-key, key-mismatch, topic-count, topic-too-long, message-too-long}
+use Rattle.utf8.specs.Grammar.{Utf8}
 use Rattle.protobuf.specs.Walk.{between}
 use Rattle.protobuf.specs.WalkLaws.{between-length}
 use Rattle.schema.specs.declared.Kind.the-variants as kind
@@ -26,7 +30,7 @@ use Rattle.ids.specs.declared.MessageId.{MessageId}
 use Rattle.ids.specs.declared.MessageId.the-variants as id
 use Rattle.ids.specs.Ids.{onSeqno, onFrom, idParts}
 use Rattle.rpc.specs.Rpc.{RawMessage, Rpc}
-use Rattle.rpc.specs.Grammar.{Each, none-left, _and_, Pairs, no-pairs, _paired_, IsMessage, is-message, IsRpc, is-rpc}
+use Rattle.rpc.specs.Grammar.{Each, none-left, _and_, IsMessage, IsRpc, is-rpc}
 use Rattle.rpc.specs.Id.{unfit}
 use Rattle.admission.specs.declared.Unfit.{Unfit}
 use Rattle.admission.specs.declared.Unfit.the-variants as why
@@ -51,10 +55,12 @@ use Rattle.compose.specs.Said.{encodeMessage, renewed, messagesIn, said}
 use Rattle.compose.specs.Weighed.{capped, andThen, given, fromFine, seqnoFine, signatureFine, keyFine, bareFine, signedFine, backedFine, topicsFine, sizeFine}
 use Rattle.compose.specs.Weighed.{limitsFine, weighed, firstUnfit}
 use Rattle.compose.specs.Compose.{writeTested}
-use Rattle.compose.specs.Off.{weighedWas, weighed-off}
+use Rattle.compose.specs.Off.{weighedWas, weighed-off, unfit-alike}
 use Rattle.compose.specs.Told.{wrongTold}
 use Rattle.compose.specs.Puts.{capped-small}
+use Rattle.composed.specs.Means.{message-body}
 use Rattle.composed.specs.WrittenRows.{both-fine, passed-of}
+use Rattle.composed.specs.LendingTexts.{pairs-each, message-plain}
 
 -- ---- what admission says, said of a list: only the length beside 30 may differ, which stops at 2^64 - 1
 abbrev pub stopped : Unfit → Unfit
@@ -78,13 +84,14 @@ ofAdmission (admission.Unfit w) = Refused (wrong.Unfit (stopped w))
 
 -- ---- each test of admission, before the rest r
 -- 28, 29, 30
-of-limits : (p : List ℕ) (r : Admission)
-    → ofAdmission (onLimits p r) ≡ andThen (andThen (topicsFine (topicsOf p)) (sizeFine (length p))) (ofAdmission r)
+of-limits : (mode : Mode) (p : List ℕ) (r : Admission)
+    → ofAdmission (onLimits mode p r)
+    ≡ andThen (andThen (topicsFine (topicsOf mode p)) (sizeFine (length p))) (ofAdmission r)
 unfolding onLimits topicsFine sizeFine
-of-limits p r =
-    either (eqb (length (topicsOf p)) 0) (λ t. simp t)
-    (λ t. either (ltb 4 (length (topicsOf p))) (λ u. simp (t, u))
-    (λ u. either (eqb (firstLong (topicsOf p)) 0)
+of-limits mode p r =
+    either (eqb (length (topicsOf mode p)) 0) (λ t. simp t)
+    (λ t. either (ltb 4 (length (topicsOf mode p))) (λ u. simp (t, u))
+    (λ u. either (eqb (firstLong (topicsOf mode p)) 0)
     (λ v. either (ltb 4096 (length p)) (λ w. simp (t, u, v, w)) (λ w. simp (t, u, v, w)))
     (λ v. simp (t, u, v))))
 
@@ -142,39 +149,42 @@ then-fine Fine = refl
 then-fine (Refused w) = refl
 
 -- admission by the sender s and by where signature and key stand
-abbrev onParts : Bool → Bool → List ℕ → List ℕ → Place → Place → MessageId → Admission
-onParts u word p s g k id.MissingFrom = admission.Unfit why.MissingFrom
-onParts u word p s g k (id.InvalidFrom n) = admission.Unfit (why.InvalidFrom n)
-onParts u word p s g k id.InvalidSeqno = onPeer s (admission.Unfit why.InvalidSeqno)
-onParts u word p s g k (id.Parts a e b f) =
-    onPeer s (onSignature u g k (onKey p s k (onWord word (onLimits p (admission.Fit a e b f)))) (onLimits p (admission.Fit a e b f)))
+abbrev onParts : Mode → Bool → Bool → List ℕ → List ℕ → Place → Place → MessageId → Admission
+onParts mode u word p s g k id.MissingFrom = admission.Unfit why.MissingFrom
+onParts mode u word p s g k (id.InvalidFrom n) = admission.Unfit (why.InvalidFrom n)
+onParts mode u word p s g k id.InvalidSeqno = onPeer s (admission.Unfit why.InvalidSeqno)
+onParts mode u word p s g k (id.Parts a e b f) =
+    let l = onLimits mode p (admission.Fit a e b f) in onPeer s (onSignature u g k (onKey p s k (onWord word l)) l)
 
 on-parts : (flags : ℕ) (p : List ℕ) (word : Bool) (x : MessageId)
     → onId flags p word x
-    ≡ onParts (allowsUnsigned flags) word p (senderOf p) (slotsOf kind.RawMessage p .fourth) (slotsOf kind.RawMessage p .fifth) x
+    ≡ onParts (modeOf flags) (allowsUnsigned flags) word p (senderOf (modeOf flags) p)
+    (slotsOf (modeOf flags) kind.RawMessage p .fourth) (slotsOf (modeOf flags) kind.RawMessage p .fifth) x
 on-parts flags p word id.MissingFrom = refl
 on-parts flags p word (id.InvalidFrom n) = refl
 on-parts flags p word id.InvalidSeqno = refl
 on-parts flags p word (id.Parts a e b f) = refl
 
 -- what is weighed behind the sequence number
-abbrev behind : Bool → List ℕ → List ℕ → Place → Place → Lists
-behind u p s g k =
-    andThen (backedFine u s (givenAt p g) (givenAt p k)) (andThen (topicsFine (topicsOf p)) (sizeFine (length p)))
+abbrev behind : Mode → Bool → List ℕ → List ℕ → Place → Place → Lists
+behind mode u p s g k =
+    andThen (backedFine u s (givenAt p g) (givenAt p k)) (andThen (topicsFine (topicsOf mode p)) (sizeFine (length p)))
 
-module _ (u word : Bool) (p : List ℕ) (g k : Place) (i : PlaceInside p g) (h : AsAsked u (givenAt p g) word) where
-  of-parts : (s : List ℕ) (a e b f : ℕ) → ofAdmission (onParts u word p s g k (id.Parts a e b f))
-      ≡ andThen (cond (isPeerId s) Fine (Refused (wrong.Unfit why.NotPeerId))) (behind u p s g k)
+module _ (mode : Mode) (u word : Bool) (p : List ℕ) (g k : Place) (i : PlaceInside p g)
+    (h : AsAsked u (givenAt p g) word) where
+  of-parts : (s : List ℕ) (a e b f : ℕ) → ofAdmission (onParts mode u word p s g k (id.Parts a e b f))
+      ≡ andThen (cond (isPeerId s) Fine (Refused (wrong.Unfit why.NotPeerId))) (behind mode u p s g k)
   of-parts s a e b f =
       let fit = admission.Fit a e b f in
-      let l = of-limits p fit ∙ then-fine (andThen (topicsFine (topicsOf p)) (sizeFine (length p))) in
-      of-peer s (onSignature u g k (onKey p s k (onWord word (onLimits p fit))) (onLimits p fit))
+      let l = of-limits mode p fit ∙ then-fine (andThen (topicsFine (topicsOf mode p)) (sizeFine (length p))) in
+      of-peer s (onSignature u g k (onKey p s k (onWord word (onLimits mode p fit))) (onLimits mode p fit))
       ∙ ap (andThen (cond (isPeerId s) Fine (Refused (wrong.Unfit why.NotPeerId))))
-      (of-backed u word p s g k (onLimits p fit) i h ∙ ap (andThen (backedFine u s (givenAt p g) (givenAt p k))) l)
+      (of-backed u word p s g k (onLimits mode p fit) i h ∙ ap (andThen (backedFine u s (givenAt p g) (givenAt p k))) l)
 
-  of-seqno : (s : List ℕ) (a e : ℕ) (q : Place) → PlaceInside p q → ofAdmission (onParts u word p s g k (onSeqno a e q))
+  of-seqno : (s : List ℕ) (a e : ℕ) (q : Place) → PlaceInside p q
+      → ofAdmission (onParts mode u word p s g k (onSeqno a e q))
       ≡ andThen (cond (isPeerId s) Fine (Refused (wrong.Unfit why.NotPeerId)))
-      (andThen (seqnoFine (given (givenAt p q))) (behind u p s g k))
+      (andThen (seqnoFine (given (givenAt p q))) (behind mode u p s g k))
   unfolding seqnoFine
   of-seqno s a e place.Absent j = of-peer s (admission.Unfit why.InvalidSeqno)
   of-seqno s a e (place.Present b f) j =
@@ -183,8 +193,10 @@ module _ (u word : Bool) (p : List ℕ) (g k : Place) (i : PlaceInside p g) (h :
       (λ t. simp t (of-peer s (admission.Unfit why.InvalidSeqno)))
       (λ t. simp t (of-parts s a e b f)))
 
-  of-from : (f q : Place) → PlaceInside p f → PlaceInside p q → ofAdmission (onParts u word p (partAt p f) g k (onFrom f q))
-      ≡ andThen (fromFine (givenAt p f)) (andThen (seqnoFine (given (givenAt p q))) (behind u p (given (givenAt p f)) g k))
+  of-from : (f q : Place) → PlaceInside p f → PlaceInside p q
+      → ofAdmission (onParts mode u word p (partAt p f) g k (onFrom f q))
+      ≡ andThen (fromFine (givenAt p f))
+      (andThen (seqnoFine (given (givenAt p q))) (behind mode u p (given (givenAt p f)) g k))
   unfolding fromFine
   of-from place.Absent q j l = refl
   of-from (place.Present a e) q j l =
@@ -192,19 +204,21 @@ module _ (u word : Bool) (p : List ℕ) (g k : Place) (i : PlaceInside p g) (h :
       rw n (either (eqb (e - a) 0 || ltb 64 (e - a)) (λ t. simp t) (λ t. simp t (of-seqno (between p a e) a e q l)))
 
 -- a message with the signature that is asked for: what its own bytes are told by admission
-pub as-admission : (flags : ℕ) (m : RawMessage) (word : Bool) → IsMessage (encodeMessage m) (renewed m)
+pub as-admission : (flags : ℕ) (m : RawMessage) (word : Bool) → IsMessage (modeOf flags) (encodeMessage m) (renewed m)
     → AsAsked (allowsUnsigned flags) (m .signature) word
     → weighed flags m ≡ ofAdmission (admissionOf flags (encodeMessage m) word)
 unfolding admissionOf idParts weighed limitsFine
 as-admission flags m word i h =
     let u = allowsUnsigned flags in
+    let mode = modeOf flags in
     let p = encodeMessage m in
-    let s = slotsOf kind.RawMessage p in
-    let n = slots-inside kind.RawMessage p in
-    let g = fields-given i in
-    let t : topicsOf p ≡ m .«topic_ids» = sym (topics-mean i .0) in
-    sym (ap ofAdmission (on-parts flags p word (idParts p))
-    ∙ of-from u word p (s .fourth) (s .fifth) (n .fourth) (subst (λ (o : Option (List ℕ)). AsAsked u o word) (sym (g .signature)) h)
+    let s = slotsOf mode kind.RawMessage p in
+    let n = slots-inside mode kind.RawMessage p in
+    let g = fields-given mode i in
+    let t : topicsOf mode p ≡ m .«topic_ids» = sym (topics-mean mode i .0) in
+    sym (ap ofAdmission (on-parts flags p word (idParts mode p))
+    ∙ of-from mode u word p (s .fourth) (s .fifth) (n .fourth)
+    (subst (λ (o : Option (List ℕ)). AsAsked u o word) (sym (g .signature)) h)
     (s .first) (s .third) (n .first) (n .third)
     ∙ rw (g .from, g .seqno, g .signature, g .key, t))
 
@@ -213,7 +227,8 @@ on-asked : (u : Bool) (o : Option (List ℕ)) → u ≡ true → AsAsked u o tru
 on-asked u none h = with-none h
 on-asked u (some d) h = with-signature
 
-pub on-as-admission : (flags : ℕ) (m : RawMessage) → allowsUnsigned flags ≡ true → IsMessage (encodeMessage m) (renewed m)
+pub on-as-admission : (flags : ℕ) (m : RawMessage) → allowsUnsigned flags ≡ true
+    → IsMessage (modeOf flags) (encodeMessage m) (renewed m)
     → weighed flags m ≡ ofAdmission (admissionOf flags (encodeMessage m) true)
 on-as-admission flags m h i = as-admission flags m true i (on-asked (allowsUnsigned flags) (m .signature) h)
 
@@ -229,11 +244,11 @@ module _ (p : List ℕ) where
   cond-sized true x y = x
   cond-sized false x y = y
 
-  limits-sized : {r : Admission} → Sized p r → Sized p (onLimits p r)
+  limits-sized : (mode : Mode) {r : Admission} → Sized p r → Sized p (onLimits mode p r)
   unfolding onLimits
-  limits-sized x =
-      cond-sized (eqb (length (topicsOf p)) 0 || ltb 4 (length (topicsOf p))) (early refl)
-      (cond-sized (eqb (firstLong (topicsOf p)) 0) (cond-sized (ltb 4096 (length p)) long x) (early refl))
+  limits-sized mode x =
+      cond-sized (eqb (length (topicsOf mode p)) 0 || ltb 4 (length (topicsOf mode p))) (early refl)
+      (cond-sized (eqb (firstLong (topicsOf mode p)) 0) (cond-sized (ltb 4096 (length p)) long x) (early refl))
 
   key-sized : (s : List ℕ) (q : Place) {r : Admission} → Sized p r → Sized p (onKey p s q r)
   key-sized s place.Absent x = cond-sized (keyInside s) x (early refl)
@@ -249,19 +264,23 @@ module _ (p : List ℕ) where
   signature-sized u place.Absent (place.Present a e) x y = early refl
   signature-sized u (place.Present a e) k x y = cond-sized (eqb (e - a) 64) x (early refl)
 
-  parts-sized : (u word : Bool) (s : List ℕ) (g k : Place) (x : MessageId) → Sized p (onParts u word p s g k x)
-  parts-sized u word s g k id.MissingFrom = early refl
-  parts-sized u word s g k (id.InvalidFrom n) = early refl
-  parts-sized u word s g k id.InvalidSeqno = cond-sized (isPeerId s) (early refl) (early refl)
-  parts-sized u word s g k (id.Parts a e b f) =
+  parts-sized : (mode : Mode) (u word : Bool) (s : List ℕ) (g k : Place) (x : MessageId)
+      → Sized p (onParts mode u word p s g k x)
+  parts-sized mode u word s g k id.MissingFrom = early refl
+  parts-sized mode u word s g k (id.InvalidFrom n) = early refl
+  parts-sized mode u word s g k id.InvalidSeqno = cond-sized (isPeerId s) (early refl) (early refl)
+  parts-sized mode u word s g k (id.Parts a e b f) =
       cond-sized (isPeerId s)
-      (signature-sized u g k (key-sized s k (word-sized word (limits-sized taken))) (limits-sized taken)) (early refl)
+      (signature-sized u g k (key-sized s k (word-sized word (limits-sized mode taken))) (limits-sized mode taken))
+      (early refl)
 
   admission-sized : (flags : ℕ) (word : Bool) → Sized p (admissionOf flags p word)
   unfolding admissionOf
   admission-sized flags word =
-      subst (Sized p) (sym (on-parts flags p word (idParts p)))
-      (parts-sized (allowsUnsigned flags) word (senderOf p) (slotsOf kind.RawMessage p .fourth) (slotsOf kind.RawMessage p .fifth) (idParts p))
+      let m = modeOf flags in
+      let s = slotsOf m kind.RawMessage p in
+      subst (Sized p) (sym (on-parts flags p word (idParts m p)))
+      (parts-sized m (allowsUnsigned flags) word (senderOf m p) (s .fourth) (s .fifth) (idParts m p))
 
   early-same : (w : Unfit) → eqb (unfitTold w .number) message-too-long ≡ false → stopped w ≡ w
   early-same why.MissingFrom h = refl
@@ -288,7 +307,8 @@ module _ (p : List ℕ) where
       ap wrongTold e ∙ ap (λ (n : ℕ). unfitTold (why.MessageTooLong n)) (capped-small (length p) (omega arith))
 
 -- below 2^64 bytes its refusal is told as admission tells it
-pub told-as-admission : (flags : ℕ) (m : RawMessage) (word : Bool) (w : Wrong) → IsMessage (encodeMessage m) (renewed m)
+pub told-as-admission : (flags : ℕ) (m : RawMessage) (word : Bool) (w : Wrong)
+    → IsMessage (modeOf flags) (encodeMessage m) (renewed m)
     → AsAsked (allowsUnsigned flags) (m .signature) word → length (encodeMessage m) < 2 ^ 64 → weighed flags m ≡ Refused w
     → wrongTold w ≡ admissionTold (admissionOf flags (encodeMessage m) word)
 told-as-admission flags m word w i h l k =
@@ -322,59 +342,73 @@ of-fine flags p (admission.Fit a e b f) h k = λ word v. (a, e, b, f, vouched-sa
 of-fine flags p (admission.Unfit w) h k = clash (cc)
 
 -- a message that may be written, by its own bytes
-pub weighed-taken : (flags : ℕ) (m : RawMessage) → IsMessage (encodeMessage m) (renewed m) → weighed flags m ≡ Fine
+pub weighed-taken : (flags : ℕ) (m : RawMessage) → IsMessage (modeOf flags) (encodeMessage m) (renewed m)
+    → weighed flags m ≡ Fine
     → Taken flags (encodeMessage m)
 weighed-taken flags m i h =
     of-fine flags (encodeMessage m) (admissionOf flags (encodeMessage m) true) refl
     (sym (as-admission flags m true i (weighed-asked flags m h)) ∙ h)
 
-own-raw : {p : List ℕ} {m : RawMessage} → IsMessage p m → IsMessage (m .raw) m
-own-raw (is-message g u) = is-message g u
+-- such a message has at most 4,096 bytes
+pub weighed-small : (flags : ℕ) (m : RawMessage) → weighed flags m ≡ Fine → length (encodeMessage m) ≤ 4096
+unfolding weighed limitsFine sizeFine
+weighed-small flags m h =
+    let l = andThen (topicsFine (m .«topic_ids»)) (sizeFine (length (encodeMessage m))) in
+    let s = backedFine (allowsUnsigned flags) (given (m .from)) (m .signature) (m .key) in
+    let q = seqnoFine (given (m .seqno)) in
+    let a = both-fine (fromFine (m .from)) (andThen q (andThen s l)) h in
+    let b = both-fine q (andThen s l) (a .1) in
+    let c = both-fine s l (b .1) in
+    let d = both-fine (topicsFine (m .«topic_ids»)) (sizeFine (length (encodeMessage m))) (c .1) in
+    either (ltb 4096 (length (encodeMessage m))) (λ t. clash (let z = simp t at (d .1) in cc)) (λ t. ltb-false _ _ t)
 
-each-means : {ds : List (List ℕ)} {ms : List RawMessage} → Pairs IsMessage ds ms
-    → Each (λ (m : RawMessage). IsMessage (m .raw) m) ms
-each-means no-pairs = none-left
-each-means (i paired r) = own-raw i and each-means r
-
-publish-means : {d : Dialect} {w : List ℕ} {x : Rpc} → IsRpc d w x
-    → Each (λ (m : RawMessage). IsMessage (m .raw) m) (x .publish)
-publish-means (is-rpc g a b c) = each-means b
+-- its topics are UTF-8 where it stands in an RPC that is meant in some dialect; so its bytes, which hold no group, mean
+-- it in every mode
+publish-texts : {d : Dialect} {w : List ℕ} {x : Rpc} → IsRpc d w x
+    → Each (λ (m : RawMessage). Each Utf8 (m .«topic_ids»)) (x .publish)
+publish-texts {d} (is-rpc g a b c) = pairs-each (message-plain (d .mode)) b
 
 each-taken : (flags : ℕ) (ms : List RawMessage) → firstUnfit flags ms ≡ Fine
-    → Each (λ (m : RawMessage). IsMessage (m .raw) m) (map renewed ms) → Each (λ (m : RawMessage). Taken flags (m .raw)) (map renewed ms)
+    → Each (λ (m : RawMessage). Each Utf8 (m .«topic_ids»)) (map renewed ms)
+    → Each (λ (m : RawMessage). Taken flags (m .raw)) (map renewed ms)
 each-taken flags [] h none-left = none-left
-each-taken flags (m ∷ ms) h (i and r) =
-    let a = both-fine (weighed flags m) (firstUnfit flags ms) h in weighed-taken flags m i (a .0) and each-taken flags ms (a .1) r
+each-taken flags (m ∷ ms) h (u and us) =
+    let a = both-fine (weighed flags m) (firstUnfit flags ms) h in
+    let l = weighed-small flags m (a .0) in
+    weighed-taken flags m (message-body (modeOf flags) m (omega arith) u) (a .0) and each-taken flags ms (a .1) us
 
--- each message of the RPC that lists say is taken, where they are written
-pub written-admitted : {d : Dialect} (flags : ℕ) (t b w : List ℕ) → writeTested flags t b ≡ Fine
-    → Within d w (said b (lentRows t))
-    → Each (λ (m : RawMessage). Taken flags (m .raw)) (said b (lentRows t) .publish)
+-- each message of the RPC that lists say is taken, where they are written: under any flags that allow the same of
+-- unsigned messages, whichever mode is among them
+pub written-admitted : {d : Dialect} (f g : ℕ) (t b w : List ℕ) → allowsUnsigned f ≡ allowsUnsigned g
+    → writeTested f t b ≡ Fine → Within d w (said b (lentRows t))
+    → Each (λ (m : RawMessage). Taken g (m .raw)) (said b (lentRows t) .publish)
 unfolding said
-written-admitted flags t b w h i =
-    each-taken flags (messagesIn b (lentRows t)) (passed-of flags t b h .fit) (publish-means (i .means))
+written-admitted f g t b w same h i =
+    let ms = messagesIn b (lentRows t) in
+    each-taken g ms (sym (unfit-alike f g same ms) ∙ passed-of f t b h .fit) (publish-texts (i .means))
 
 -- and one that is taken has the signature that is asked for
 there-given : (p : List ℕ) (q : Place) (u : Bool) → isThere q ≡ true → AsAsked u (givenAt p q) true
 there-given p place.Absent u h = clash (cc)
 there-given p (place.Present a e) u h = with-signature
 
-fit-asked : (flags : ℕ) (m : RawMessage) (a e b f : ℕ) → IsMessage (encodeMessage m) (renewed m)
+fit-asked : (flags : ℕ) (m : RawMessage) (a e b f : ℕ) → IsMessage (modeOf flags) (encodeMessage m) (renewed m)
     → admissionOf flags (encodeMessage m) true ≡ admission.Fit a e b f → AsAsked (allowsUnsigned flags) (m .signature) true
 unfolding isSigned
 fit-asked flags m a e b f i h =
     let p = encodeMessage m in
     let u = allowsUnsigned flags in
     either u (λ t. on-asked u (m .signature) t)
-    (λ t. subst (λ (o : Option (List ℕ)). AsAsked u o true) (fields-given i .signature)
-    (there-given p (slotsOf kind.RawMessage p .fourth) u (fit-signed flags p true a e b f h t)))
+    (λ t. subst (λ (o : Option (List ℕ)). AsAsked u o true) (fields-given (modeOf flags) i .signature)
+    (there-given p (slotsOf (modeOf flags) kind.RawMessage p .fourth) u (fit-signed flags p true a e b f h t)))
 
 vouched-word : (flags : ℕ) (p : List ℕ) → vouched flags p true ≡ true
 unfolding vouched
 vouched-word flags p = refl
 
 -- by its fields, as the documents have it: a message may be written exactly where it is fit
-pub weighed-exactly : (flags : ℕ) (m : RawMessage) → IsMessage (encodeMessage m) (renewed m) → Bytes (encodeMessage m)
+pub weighed-exactly : (flags : ℕ) (m : RawMessage) → IsMessage (modeOf flags) (encodeMessage m) (renewed m)
+    → Bytes (encodeMessage m)
     → (weighed flags m ≡ Fine) ↔ FitMessage flags (renewed m) true
 weighed-exactly flags m i b = (
   λ h. fit-message flags i b true .0 (weighed-taken flags m i h true (vouched-word flags (encodeMessage m))),

@@ -11,7 +11,10 @@ use lib.ListN.{length, take, drop, drop-of-length-le}
 use lib.Seq.{sets, sets-eq, take-at}
 use lib.Dec.{eqb}
 use borrow.Author.Tests.{eq-eqb, eqb-true, le-leb, le-ltb}
+use Rattle.basis.specs.declared.Edition.the-variants.{V11}
+use Rattle.basis.specs.declared.Mode.the-variants as mode
 use Rattle.basis.specs.declared.Dialect.{Dialect}
+use Rattle.basis.specs.Dialect.{spoken}
 use Rattle.basis.specs.Cases.{both}
 use Rattle.basis.specs.Bytes.{Bytes}
 use Rattle.basis.specs.Told.{done}
@@ -19,7 +22,7 @@ use Rattle.basis.specs.Writing.{written}
 use Rattle.schema.specs.declared.Kind.the-variants as kind
 use Rattle.schema.specs.declared.Tested.{Tested}
 use Rattle.message.specs.declared.Record.{Record}
-use Rattle.message.specs.Rows.{rowsOf, wordsOfAll, firstDialect}
+use Rattle.message.specs.Rows.{rowsOf, wordsOfAll}
 use Rattle.message.specs.RowsLaws.{all-length}
 use Rattle.message.specs.Decode.{hasControl, onCount, decodeAnswer, leaves, decodeTable}
 use Rattle.message.specs.Told.{decodedTold}
@@ -87,11 +90,11 @@ said-gathered b rs ss ms cs e =
     ∙ ap (λ (o : Option ControlMessage). record { subscriptions = ss; publish = map renewed ms; control = o }) (control-flat cs)
 
 meant-lends : {d : Dialect} {s : List ℕ} {x : Rpc} → IsRpc d s x → recordsIn x ≤ 512 → Each Quiet (opt (x .control))
-    → Lends (wordsOfAll (rowsOf (kind.Rpc d) 0 s)) s (anew x)
+    → Lends (wordsOfAll (rowsOf (d .mode) (kind.Rpc (d .edition)) 0 s)) s (anew x)
 unfolding lentWell
 meant-lends {d} (is-rpc {s = s} {es = es} {ss = ss} {ms = ms} {cs = cs} g h1 h2 h3) few q =
-    let rs = rowsOf (kind.Rpc d) 0 s in
-    let own = all-records (kind.Rpc d) 0 s in
+    let rs = rowsOf (d .mode) (kind.Rpc (d .edition)) 0 s in
+    let own = all-records (d .mode) (kind.Rpc (d .edition)) 0 s in
     let e = rpc-gathered d s es ss ms cs g h1 h2 h3 in
     let n = rpc-records {d = d} (is-rpc g h1 h2 h3) in
     let c = quiet-flat cs q in
@@ -105,7 +108,8 @@ meant-lends {d} (is-rpc {s = s} {es = es} {ss = ss} {ms = ms} {cs = cs} g h1 h2 
       iwant = c .iwant;
       idontwant = c .idontwant;
     }) in
-    let l = waits-lent s (length s) false false rs own (rows-inside (kind.Rpc d) 0 (length s) s (omega arith)) w in
+    let l = waits-lent s (length s) false false rs own
+    (rows-inside (d .mode) (kind.Rpc (d .edition)) 0 (length s) s (omega arith)) w in
     let u = texts-fine s rs (subst Texts (sym e) (meant-texts d h1 h2 h3)) in
     let k = words-lent rs own in
     let m = all-length rs in
@@ -123,19 +127,20 @@ meant-lends {d} (is-rpc {s = s} {es = es} {ss = ss} {ms = ms} {cs = cs} g h1 h2 
 -- the words that decode writes in a dialect for a body within capacity without IHAVE, IWANT and IDONTWANT, over the
 -- body, are lent well, and say its RPC, each message made anew
 pub lend-decoded : {d : Dialect} {s : List ℕ} {x : Rpc} → Within d s x → Each Quiet (opt (x .control))
-    → Lends (wordsOfAll (rowsOf (kind.Rpc d) 0 s)) s (anew x)
+    → Lends (wordsOfAll (rowsOf (d .mode) (kind.Rpc (d .edition)) 0 s)) s (anew x)
 lend-decoded w q = meant-lends (w .means) (w .few) q
 
 -- and those words are what stands at the front of a table with room for them
 pub decoded-words : {d : Dialect} {s : List ℕ} {x : Rpc} (table : List ℕ) → Within d s x
     → recordsIn x ≤ length table / 20
-    → take (recordsIn x * 20) (decodeTable d s table) ≡ wordsOfAll (rowsOf (kind.Rpc d) 0 s)
+    → take (recordsIn x * 20) (decodeTable d s table) ≡ wordsOfAll (rowsOf (d .mode) (kind.Rpc (d .edition)) 0 s)
 unfolding decodeTable decodeAnswer
 decoded-words {d} {s} {x} table w r =
     let n = recordsIn x in
-    let ws = wordsOfAll (rowsOf (kind.Rpc d) 0 s) in
-    let l : length ws ≡ n * 20 = all-length (rowsOf (kind.Rpc d) 0 s) ∙ omega (arith, rpc-records (w .means)) in
-    ap (λ (c : Tested). take (n * 20) (leaves d s table (onCount (length table / 20) (hasControl s) c)))
+    let ws = wordsOfAll (rowsOf (d .mode) (kind.Rpc (d .edition)) 0 s) in
+    let l : length ws ≡ n * 20 = all-length (rowsOf (d .mode) (kind.Rpc (d .edition)) 0 s)
+    ∙ omega (arith, rpc-records (w .means)) in
+    ap (λ (c : Tested). take (n * 20) (leaves d s table (onCount (length table / 20) (hasControl (d .mode) s) c)))
     (records-within w)
     ∙ simp (le-ltb (length table / 20) n r)
     (ap (take (n * 20)) (sets-eq ws table 0 (omega arith)) ∙ take-at ws (drop (0 + length ws) table) (n * 20) l)
@@ -149,7 +154,7 @@ decoded-lends d s table n c x b e i q =
     let r = one-rpc (a .within .means) i in
     let w : Within d s x = subst (Within d s) r (a .within) in
     let k : n ≡ recordsIn x = a .count ∙ ap recordsIn r in
-    let t : take (n * 20) (decodeTable d s table) ≡ wordsOfAll (rowsOf (kind.Rpc d) 0 s) =
+    let t : take (n * 20) (decodeTable d s table) ≡ wordsOfAll (rowsOf (d .mode) (kind.Rpc (d .edition)) 0 s) =
     ap (λ (j : ℕ). take (j * 20) (decodeTable d s table)) k
     ∙ decoded-words table w (omega (arith, a .room, a .count)) in (
       subst (λ (u : List ℕ). Lends u s (anew x)) (sym t) (lend-decoded w q),
@@ -201,15 +206,15 @@ quiet-of (p and ps) = p .quiet and quiet-of ps
 
 -- its encoding, with decode's words of it
 pub lend-sayable : (d : Dialect) (x : Rpc) → Sayable x → Within d (encodeRpc x) x
-    → Lends (wordsOfAll (rowsOf (kind.Rpc d) 0 (encodeRpc x))) (encodeRpc x) x
+    → Lends (wordsOfAll (rowsOf (d .mode) (kind.Rpc (d .edition)) 0 (encodeRpc x))) (encodeRpc x) x
 lend-sayable d x q w =
-    subst (Lends (wordsOfAll (rowsOf (kind.Rpc d) 0 (encodeRpc x))) (encodeRpc x)) (anew-same x q)
+    subst (Lends (wordsOfAll (rowsOf (d .mode) (kind.Rpc (d .edition)) 0 (encodeRpc x))) (encodeRpc x)) (anew-same x q)
     (lend-decoded w (quiet-of (q .control)))
 
 pub every-rpc : (d : Dialect) (x : Rpc) → Sayable x → Within d (encodeRpc x) x → Bytes (encodeRpc x) → CanSay x
 every-rpc d x q w b =
     record {
-      table = wordsOfAll (rowsOf (kind.Rpc d) 0 (encodeRpc x));
+      table = wordsOfAll (rowsOf (d .mode) (kind.Rpc (d .edition)) 0 (encodeRpc x));
       bytes = encodeRpc x;
       words = body-words d (encodeRpc x) b (omega (arith, w .small));
       octets = b;
@@ -219,7 +224,7 @@ every-rpc d x q w b =
 -- where texts are UTF-8, numbers are below 2^64, and the encoding is within capacity
 pub every-plain-rpc : (x : Rpc) → Sayable x → Plain x → Bytes (encodeRpc x) → length (encodeRpc x) ≤ 65536 → recordsIn x ≤ 512
     → CanSay x
-every-plain-rpc x q p b l n = every-rpc firstDialect x q (plain-within firstDialect x p q l n) b
+every-plain-rpc x q p b l n = every-rpc (spoken mode.Plain V11) x q (plain-within (spoken mode.Plain V11) x p q l n) b
 
 -- ---- and it is written under known flags, where no message is refused: a test looks at a message's fields alone
 weighed-renewed : (flags : ℕ) (m : RawMessage) → weighed flags (renewed m) ≡ weighed flags m
@@ -283,9 +288,10 @@ written-again d flags t b table w h l =
     let n = lent-records t b (p .taken .well) in
     let z = whole-rows t b (p .taken .well) in
     let k : length t ≡ recordsIn (saidOf t b) * 20 = omega arith in
-    let e : take (length t) (decodeTable d (bodyOf t b) table) ≡ wordsOfAll (rowsOf (kind.Rpc d) 0 (bodyOf t b)) =
+    let e : take (length t) (decodeTable d (bodyOf t b) table)
+    ≡ wordsOfAll (rowsOf (d .mode) (kind.Rpc (d .edition)) 0 (bodyOf t b)) =
     ap (λ (i : ℕ). take i (decodeTable d (bodyOf t b) table)) k ∙ decoded-words table m (omega arith) in
     let c = lend-sayable d (saidOf t b) (said-sayable b (lentRows t)) m in
     subst (λ (u : List ℕ). Alike flags t b u (bodyOf t b)) (sym e)
-    (alike-of flags t b (wordsOfAll (rowsOf (kind.Rpc d) 0 (bodyOf t b))) (bodyOf t b) h
+    (alike-of flags t b (wordsOfAll (rowsOf (d .mode) (kind.Rpc (d .edition)) 0 (bodyOf t b))) (bodyOf t b) h
     (lends-tested flags c (p .known) (unfit-said flags b (lentRows t) ∙ p .fit) (p .short)) (c .says))

@@ -7,6 +7,7 @@ use native.Mathlib.Omega.{arith}
 use lib.ListN.{length}
 use lib.Dec.{leb, eqb}
 use borrow.Author.Tests.{le-leb}
+use Rattle.basis.specs.declared.Mode.{Mode}
 use Rattle.basis.specs.Cases.{either}
 use Rattle.protobuf.specs.declared.Field.{Field}
 use Rattle.protobuf.specs.Walk.{Fields, fieldsOf, between}
@@ -38,7 +39,7 @@ Lies n r = rowInside n r ≡ true
 pub and-both : (a b : Bool) → a ≡ true → b ≡ true → (a && b) ≡ true
 and-both a b e f = rw (e, f)
 
-module _ (s : List ℕ) (n at : ℕ) (l : at + length s ≤ n) where
+module _ (mode : Mode) (s : List ℕ) (n at : ℕ) (l : at + length s ≤ n) where
   place-inside : (p : Place) → PlaceInside s p → insideAt n at p ≡ true
   unfolding insideAt
   place-inside place.Absent h = refl
@@ -66,14 +67,14 @@ module _ (s : List ℕ) (n at : ℕ) (l : at + length s ≤ n) where
   fields-inside kind.ControlIDontWant t g = refl
 
   -- the message's own row
-  own-inside : (k : Kind) → Each (Lies n) (ownRows k at s)
+  own-inside : (k : Kind) → Each (Lies n) (ownRows mode k at s)
   unfolding ownRows rowInside
   own-inside k =
       either (eqb (ownOf k) 0) (λ t. simp t none-left)
-      (λ t. let r : Lies n (record { kind = k; start = at; end = at + length s; slots = slotsOf k s }) =
+      (λ t. let r : Lies n (record { kind = k; start = at; end = at + length s; slots = slotsOf mode k s }) =
       and-both (leb at (at + length s)) _ (le-leb at (at + length s) (omega arith))
-      (and-both (leb (at + length s) n) (fieldsInside n at k (slotsOf k s)) (le-leb (at + length s) n l)
-      (fields-inside k (slotsOf k s) (slots-inside k s))) in
+      (and-both (leb (at + length s) n) (fieldsInside n at k (slotsOf mode k s)) (le-leb (at + length s) n l)
+      (fields-inside k (slotsOf mode k s) (slots-inside mode k s))) in
       simp t (r and none-left))
 
 -- ---- a field's rows
@@ -83,39 +84,42 @@ unfolding rowInside
 leaf-inside k n a e f h l =
     and-both (leb a e) _ (le-leb a e h) (and-both (leb e n) (fieldsInside n a k noSlots) (le-leb e n l) f)
 
-role-inside : (base n : ℕ) (s : List ℕ) (f : Field) (r : Role) → base + length s ≤ n → f .start ≤ f .next → f .next ≤ length s
-    → ((j : Kind) (form : Form) (b : ℕ) (p : List ℕ) → r ≡ Sub j form → b + length p ≤ n → Each (Lies n) (rowsOf j b p))
-    → Each (Lies n) (roleRows rowsOf base s f r)
+role-inside : (mode : Mode) (base n : ℕ) (s : List ℕ) (f : Field) (r : Role) → base + length s ≤ n
+    → f .start ≤ f .next → f .next ≤ length s
+    → ((j : Kind) (form : Form) (b : ℕ) (p : List ℕ) → r ≡ Sub j form → b + length p ≤ n
+    → Each (Lies n) (rowsOf mode j b p))
+    → Each (Lies n) (roleRows (rowsOf mode) base s f r)
 unfolding fieldsInside
-role-inside base n s f Skip l o w h = none-left
-role-inside base n s f (Number figure) l o w h = none-left
-role-inside base n s f (Text slot) l o w h = none-left
-role-inside base n s f (Bytes slot) l o w h = none-left
-role-inside base n s f (Unsigned slot) l o w h = none-left
-role-inside base n s f Topic l o w h =
+role-inside mode base n s f Skip l o w h = none-left
+role-inside mode base n s f (Number figure) l o w h = none-left
+role-inside mode base n s f (Text slot) l o w h = none-left
+role-inside mode base n s f (Bytes slot) l o w h = none-left
+role-inside mode base n s f (Unsigned slot) l o w h = none-left
+role-inside mode base n s f Topic l o w h =
     leaf-inside kind.Topic n (base + f .start) (base + f .next) refl (omega arith) (omega arith) and none-left
-role-inside base n s f MessageId l o w h =
+role-inside mode base n s f MessageId l o w h =
     leaf-inside kind.MessageId n (base + f .start) (base + f .next) refl (omega arith) (omega arith) and none-left
-role-inside base n s f (Sub k form) l o w h =
+role-inside mode base n s f (Sub k form) l o w h =
     let z = between-length s (f .start) (f .next) w in
     h k form (base + f .start) (between s (f .start) (f .next)) refl (omega arith)
 
 -- ---- a body's rows
-along-inside : (k : Kind) (base n : ℕ) (s : List ℕ) → base + length s ≤ n
-    → ((j : Kind) (b : ℕ) (p : List ℕ) → rank j < rank k → b + length p ≤ n → Each (Lies n) (rowsOf j b p))
-    → Each (Lies n) (rowsAlong rowsOf k base s (fieldsOf s))
-along-inside k base n s l h =
-    along s (λ (at : ℕ) (w : Fields). Each (Lies n) (rowsAlong rowsOf k base s w))
+along-inside : (mode : Mode) (k : Kind) (base n : ℕ) (s : List ℕ) → base + length s ≤ n
+    → ((j : Kind) (b : ℕ) (p : List ℕ) → rank j < rank k → b + length p ≤ n → Each (Lies n) (rowsOf mode j b p))
+    → Each (Lies n) (rowsAlong (rowsOf mode) k base s (fieldsOf mode s))
+along-inside mode k base n s l h =
+    along mode s (λ (at : ℕ) (w : Fields). Each (Lies n) (rowsAlong (rowsOf mode) k base s w))
     (λ at. none-left)
     (λ at why e. none-left)
     (λ at f st e rest. each-append
-    (role-inside base n s f (roleOf k (f .field) (f .«wire_type»)) l (st .ends) (st .within)
+    (role-inside mode base n s f (roleOf k (f .field) (f .«wire_type»)) l (st .ends) (st .within)
     (λ j form b p q m. h j b p (sub-rank k j form (f .field) (f .«wire_type») q) m))
     rest)
     0
 
-pub rows-inside : (k : Kind) (base n : ℕ) (s : List ℕ) → base + length s ≤ n → Each (Lies n) (rowsOf k base s)
-rows-inside =
-    by-rank (λ k. (base n : ℕ) (s : List ℕ) → base + length s ≤ n → Each (Lies n) (rowsOf k base s))
-    (λ k ih base n s l. subst (Each (Lies n)) (sym (rows-along k base s))
-    (each-append (own-inside s n base l k) (along-inside k base n s l (λ j b p q m. ih j q b n p m))))
+pub rows-inside : (mode : Mode) (k : Kind) (base n : ℕ) (s : List ℕ) → base + length s ≤ n
+    → Each (Lies n) (rowsOf mode k base s)
+rows-inside mode =
+    by-rank (λ k. (base n : ℕ) (s : List ℕ) → base + length s ≤ n → Each (Lies n) (rowsOf mode k base s))
+    (λ k ih base n s l. subst (Each (Lies n)) (sym (rows-along mode k base s))
+    (each-append (own-inside mode s n base l k) (along-inside mode k base n s l (λ j b p q m. ih j q b n p m))))

@@ -4,6 +4,7 @@ use mathlib.Core.Path.{_≡_, refl, sym, _∙_}
 use mathlib.Core.Bool.{Bool, true, _&&_, _||_, or-false, or-true}
 use mathlib.Core.List.{List, [], _∷_}
 use lib.Dec.{eqb}
+use Rattle.basis.specs.declared.Mode.{Mode}
 use Rattle.basis.specs.declared.Dialect.{Dialect}
 use Rattle.basis.specs.Cases.{either, clash}
 use Rattle.utf8.specs.Grammar.{Utf8}
@@ -247,26 +248,26 @@ texts-fine b (r ∷ rs) o =
     fine-both (textFine b (textOf r)) (textsFine b rs) (h .fine) (texts-fine b rs (h .rest))
 
 -- ---- what is meant
-pairs-each : {X : Type 0} {R : List ℕ → X → Type 0} {P : X → Type 0} → ((d : List ℕ) (x : X) → R d x → P x)
+pub pairs-each : {X : Type 0} {R : List ℕ → X → Type 0} {P : X → Type 0} → ((d : List ℕ) (x : X) → R d x → P x)
     → {ds : List (List ℕ)} {xs : List X} → Pairs R ds xs → Each P xs
 pairs-each f no-pairs = none-left
 pairs-each f (_paired_ {x = d} {y = x} p ps) = f d x p and pairs-each f ps
 
-sub-opts-plain : (d : List ℕ) (o : SubOpts) → IsSubOpts d o → Each Utf8 (opt (o .«topic_id»))
-sub-opts-plain _ _ (is-sub-opts g u) = each-last u
+sub-opts-plain : (mode : Mode) (d : List ℕ) (o : SubOpts) → IsSubOpts mode d o → Each Utf8 (opt (o .«topic_id»))
+sub-opts-plain mode _ _ (is-sub-opts g u) = each-last u
 
-message-plain : (d : List ℕ) (m : RawMessage) → IsMessage d m → Each Utf8 (m .«topic_ids»)
-message-plain _ _ (is-message g u) = u
+pub message-plain : (mode : Mode) (d : List ℕ) (m : RawMessage) → IsMessage mode d m → Each Utf8 (m .«topic_ids»)
+message-plain mode _ _ (is-message g u) = u
 
-graft-plain : (d : List ℕ) (g : ControlGraft) → IsGraft d g → Each Utf8 (opt (g .«topic_id»))
-graft-plain _ _ (is-graft g u) = each-last u
+graft-plain : (mode : Mode) (d : List ℕ) (g : ControlGraft) → IsGraft mode d g → Each Utf8 (opt (g .«topic_id»))
+graft-plain mode _ _ (is-graft g u) = each-last u
 
-prune-plain : (d : List ℕ) (p : ControlPrune) → IsPrune d p → PlainPrune p
-prune-plain _ _ (is-prune g u h) = record { topic = each-last u; backoff = each-last (numbers-small 3 g) }
+prune-plain : (mode : Mode) (d : List ℕ) (p : ControlPrune) → IsPrune mode d p → PlainPrune p
+prune-plain mode _ _ (is-prune g u h) = record { topic = each-last u; backoff = each-last (numbers-small 3 g) }
 
 control-plain : (d : Dialect) (s : List ℕ) (c : ControlMessage) → IsControl d s c → PlainControl c
 control-plain d _ _ (is-control g h1 h2 h3 h4 h5) =
-    record { grafts = pairs-each graft-plain h3; prunes = pairs-each prune-plain h4 }
+    record { grafts = pairs-each (graft-plain (d .mode)) h3; prunes = pairs-each (prune-plain (d .mode)) h4 }
 
 flat-plain : {cs : List ControlMessage} → Each PlainControl cs → PlainControl (flat cs)
 flat-plain none-left = record { grafts = none-left; prunes = none-left }
@@ -276,13 +277,14 @@ flat-plain (p and ps) =
 
 pub meant-texts : (d : Dialect) {d1 d2 d3 : List (List ℕ)} {ss : List SubOpts} {ms : List RawMessage}
     {cs : List ControlMessage}
-    → Pairs IsSubOpts d1 ss → Pairs IsMessage d2 ms → Pairs (IsControl d) d3 cs → Texts (state [] [] [] ss ms (flat cs))
+    → Pairs (IsSubOpts (d .mode)) d1 ss → Pairs (IsMessage (d .mode)) d2 ms → Pairs (IsControl d) d3 cs
+    → Texts (state [] [] [] ss ms (flat cs))
 meant-texts d h1 h2 h3 =
     let c = flat-plain (pairs-each (control-plain d) h3) in
     record {
       topics = none-left;
-      subscriptions = pairs-each sub-opts-plain h1;
-      publish = pairs-each message-plain h2;
+      subscriptions = pairs-each (sub-opts-plain (d .mode)) h1;
+      publish = pairs-each (message-plain (d .mode)) h2;
       grafts = c .grafts;
       prunes = c .prunes;
     }

@@ -5,6 +5,7 @@ use mathlib.Core.List.{List, [], _∷_}
 use native.Mathlib.Omega.{arith}
 use lib.ListN.{length, drop}
 use lib.Dec.{eqb}
+use Rattle.basis.specs.declared.Mode.{Mode}
 use Rattle.basis.specs.declared.Dialect.{Dialect}
 use Rattle.basis.specs.Cases.{either, clash}
 use Rattle.basis.specs.Bytes.{Bytes}
@@ -22,8 +23,9 @@ use Rattle.protobuf.specs.declared.Skip.the-variants as skip
 use Rattle.protobuf.specs.declared.Field.{Field}
 use Rattle.protobuf.specs.declared.Step.the-variants as step
 use Rattle.protobuf.specs.Field.{after, readTag, readLen, readVarint, skipField, ofValue, ofPart, ofSkip, readValue, ofTag, readField}
+use Rattle.protobuf.specs.Grammar.{maxGroups}
 use Rattle.protobuf.specs.Laws.{part-fits}
-use Rattle.protobuf.specs.Exactly.{spelt}
+use Rattle.protobuf.specs.Spelt.{spelt}
 use Rattle.protobuf.specs.Walk.{Fields, fieldsOf, between}
 use Rattle.protobuf.specs.WalkLaws.{along, between-length}
 use Rattle.schema.specs.declared.Kind.{Kind}
@@ -49,7 +51,7 @@ use Rattle.canonical.specs.Means.{Small}
 use Rattle.composed.specs.Written.{Words}
 
 -- ---- a field's value
-module _ (s : List ℕ) (b : Bytes s) (l : length s < 2 ^ 64) (f : Field) where
+module _ (mode : Mode) (s : List ℕ) (b : Bytes s) (l : length s < 2 ^ 64) (f : Field) where
   varint-value : (n type to : ℕ) (r : Uvarint) → r ≡ readUvarint (drop to s) → step.At f ≡ ofValue n type to (after to value.Refused value.Value r)
       → f .value < 2 ^ 64
   varint-value n type to (Read x m) q h =
@@ -65,19 +67,19 @@ module _ (s : List ℕ) (b : Bytes s) (l : length s < 2 ^ 64) (f : Field) where
   skip-value n type to (skip.Next e) h = let z : f .value ≡ 0 = cc in omega arith
   skip-value n type to (skip.Refused why) h = clash (cc)
 
-  read-value : (n type to : ℕ) → step.At f ≡ readValue s n type to → f .value < 2 ^ 64
+  read-value : (n type to : ℕ) → step.At f ≡ readValue mode s n type to → f .value < 2 ^ 64
   unfolding readValue readVarint
   read-value n type to h =
       either (eqb type 0) (λ t0. varint-value n type to (readUvarint (drop to s)) refl (simp t0 at h))
       (λ t0. either (eqb type 2) (λ t2. part-value n type to (readLen s to) refl (simp (t0, t2) at h))
-      (λ t2. skip-value n type to (skipField s to type) (simp (t0, t2) at h)))
+      (λ t2. skip-value n type to (skipField mode maxGroups s to n type) (simp (t0, t2) at h)))
 
-  tag-value : (r : Tag) → step.At f ≡ ofTag s r → f .value < 2 ^ 64
+  tag-value : (r : Tag) → step.At f ≡ ofTag mode s r → f .value < 2 ^ 64
   tag-value tag.End h = clash (cc)
   tag-value (tag.Refused why) h = clash (cc)
   tag-value (tag.Field n type to) h = read-value n type to h
 
-  field-value : (at : ℕ) → step.At f ≡ readField s at → f .value < 2 ^ 64
+  field-value : (at : ℕ) → step.At f ≡ readField mode s at → f .value < 2 ^ 64
   unfolding readField
   field-value at h = tag-value (readTag s at) h
 
@@ -142,32 +144,34 @@ no-number : NumberFits noSlots
 unfolding numberWords
 no-number = two (omega arith) (omega arith)
 
-slots-number : (k : Kind) (s : List ℕ) → Bytes s → length s < 2 ^ 64 → NumberFits (slotsOf k s)
+slots-number : (mode : Mode) (k : Kind) (s : List ℕ) → Bytes s → length s < 2 ^ 64 → NumberFits (slotsOf mode k s)
 unfolding slotsOf withField
-slots-number k s b l =
-    along s (λ (at : ℕ) (w : Fields). (t : Slots) → NumberFits t → NumberFits (slotsAlong k t w))
+slots-number mode k s b l =
+    along mode s (λ (at : ℕ) (w : Fields). (t : Slots) → NumberFits t → NumberFits (slotsAlong k t w))
     (λ at t h. h)
     (λ at why e t h. h)
     (λ at f st e rest t h. rest (roleSlots t f (roleOf k (f .field) (f .«wire_type»)))
-    (role-number t f (roleOf k (f .field) (f .«wire_type»)) (field-value s b l f at e) h))
+    (role-number t f (roleOf k (f .field) (f .«wire_type»)) (field-value mode s b l f at e) h))
     0 noSlots no-number
 
 -- ---- the rows of a body
 abbrev Fits : Record → Type 0
 Fits r = Each Small (wordsOf r)
 
-own-words : (k : Kind) (base : ℕ) (s : List ℕ) → Bytes s → base + length s < 2 ^ 64 → Each Fits (ownRows k base s)
+own-words : (mode : Mode) (k : Kind) (base : ℕ) (s : List ℕ) → Bytes s → base + length s < 2 ^ 64
+    → Each Fits (ownRows mode k base s)
 unfolding ownRows placesWords
-own-words k base s b l =
-    let g = slots-inside k s in
+own-words mode k base s b l =
+    let g = slots-inside mode k s in
     let m : length s < 2 ^ 64 = omega arith in
-    let r : Fits (record { kind = k; start = base; end = base + length s; slots = slotsOf k s }) =
-    record-words (record { kind = k; start = base; end = base + length s; slots = slotsOf k s }) (omega arith) l
-    (slots-number k s b m)
-    (each-append (place-words s m (slotsOf k s .first) (g .first))
-    (each-append (place-words s m (slotsOf k s .second) (g .second))
-    (each-append (place-words s m (slotsOf k s .third) (g .third))
-    (each-append (place-words s m (slotsOf k s .fourth) (g .fourth)) (place-words s m (slotsOf k s .fifth) (g .fifth)))))) in
+    let r : Fits (record { kind = k; start = base; end = base + length s; slots = slotsOf mode k s }) =
+    record-words (record { kind = k; start = base; end = base + length s; slots = slotsOf mode k s }) (omega arith) l
+    (slots-number mode k s b m)
+    (each-append (place-words s m (slotsOf mode k s .first) (g .first))
+    (each-append (place-words s m (slotsOf mode k s .second) (g .second))
+    (each-append (place-words s m (slotsOf mode k s .third) (g .third))
+    (each-append (place-words s m (slotsOf mode k s .fourth) (g .fourth))
+    (place-words s m (slotsOf mode k s .fifth) (g .fifth)))))) in
     either (eqb (ownOf k) 0) (λ t. simp t none-left) (λ t. simp t (r and none-left))
 
 absent-words : Each Small (placeWords place.Absent)
@@ -180,41 +184,45 @@ leaf-words k a e p q =
     record-words (record { kind = k; start = a; end = e; slots = noSlots }) p q no-number
     (each-append absent-words (each-append absent-words (each-append absent-words (each-append absent-words absent-words))))
 
-role-words : (base : ℕ) (s : List ℕ) (f : Field) (r : Role) → Bytes s → base + length s < 2 ^ 64 → f .start ≤ f .next → f .next ≤ length s
-    → ((j : Kind) (form : Form) (b : ℕ) (p : List ℕ) → r ≡ Sub j form → Bytes p → b + length p < 2 ^ 64 → Each Fits (rowsOf j b p))
-    → Each Fits (roleRows rowsOf base s f r)
-role-words base s f Passed b l o w h = none-left
-role-words base s f (Number figure) b l o w h = none-left
-role-words base s f (Text slot) b l o w h = none-left
-role-words base s f (BytesRole slot) b l o w h = none-left
-role-words base s f (Unsigned slot) b l o w h = none-left
-role-words base s f Topic b l o w h =
+role-words : (mode : Mode) (base : ℕ) (s : List ℕ) (f : Field) (r : Role) → Bytes s → base + length s < 2 ^ 64
+    → f .start ≤ f .next → f .next ≤ length s
+    → ((j : Kind) (form : Form) (b : ℕ) (p : List ℕ) → r ≡ Sub j form → Bytes p → b + length p < 2 ^ 64
+    → Each Fits (rowsOf mode j b p))
+    → Each Fits (roleRows (rowsOf mode) base s f r)
+role-words mode base s f Passed b l o w h = none-left
+role-words mode base s f (Number figure) b l o w h = none-left
+role-words mode base s f (Text slot) b l o w h = none-left
+role-words mode base s f (BytesRole slot) b l o w h = none-left
+role-words mode base s f (Unsigned slot) b l o w h = none-left
+role-words mode base s f Topic b l o w h =
     leaf-words kind.Topic (base + f .start) (base + f .next) (omega arith) (omega arith) and none-left
-role-words base s f MessageId b l o w h =
+role-words mode base s f MessageId b l o w h =
     leaf-words kind.MessageId (base + f .start) (base + f .next) (omega arith) (omega arith) and none-left
-role-words base s f (Sub k form) b l o w h =
+role-words mode base s f (Sub k form) b l o w h =
     let z = between-length s (f .start) (f .next) w in
     h k form (base + f .start) (between s (f .start) (f .next)) refl
     (take-bytes (f .next - f .start) (drop (f .start) s) (drop-bytes (f .start) s b)) (omega arith)
 
-along-words : (k : Kind) (base : ℕ) (s : List ℕ) → Bytes s → base + length s < 2 ^ 64
-    → ((j : Kind) (b : ℕ) (p : List ℕ) → rank j < rank k → Bytes p → b + length p < 2 ^ 64 → Each Fits (rowsOf j b p))
-    → Each Fits (rowsAlong rowsOf k base s (fieldsOf s))
-along-words k base s b l h =
-    along s (λ (at : ℕ) (w : Fields). Each Fits (rowsAlong rowsOf k base s w))
+along-words : (mode : Mode) (k : Kind) (base : ℕ) (s : List ℕ) → Bytes s → base + length s < 2 ^ 64
+    → ((j : Kind) (b : ℕ) (p : List ℕ) → rank j < rank k → Bytes p → b + length p < 2 ^ 64
+    → Each Fits (rowsOf mode j b p))
+    → Each Fits (rowsAlong (rowsOf mode) k base s (fieldsOf mode s))
+along-words mode k base s b l h =
+    along mode s (λ (at : ℕ) (w : Fields). Each Fits (rowsAlong (rowsOf mode) k base s w))
     (λ at. none-left)
     (λ at why e. none-left)
     (λ at f st e rest. each-append
-    (role-words base s f (roleOf k (f .field) (f .«wire_type»)) b l (st .ends) (st .within)
+    (role-words mode base s f (roleOf k (f .field) (f .«wire_type»)) b l (st .ends) (st .within)
     (λ j form a p q c m. h j a p (sub-rank k j form (f .field) (f .«wire_type») q) c m))
     rest)
     0
 
-rows-words : (k : Kind) (base : ℕ) (s : List ℕ) → Bytes s → base + length s < 2 ^ 64 → Each Fits (rowsOf k base s)
-rows-words =
-    by-rank (λ k. (base : ℕ) (s : List ℕ) → Bytes s → base + length s < 2 ^ 64 → Each Fits (rowsOf k base s))
-    (λ k ih base s b l. subst (Each Fits) (sym (rows-along k base s))
-    (each-append (own-words k base s b l) (along-words k base s b l (λ j a p q c m. ih j q a p c m))))
+rows-words : (mode : Mode) (k : Kind) (base : ℕ) (s : List ℕ) → Bytes s → base + length s < 2 ^ 64
+    → Each Fits (rowsOf mode k base s)
+rows-words mode =
+    by-rank (λ k. (base : ℕ) (s : List ℕ) → Bytes s → base + length s < 2 ^ 64 → Each Fits (rowsOf mode k base s))
+    (λ k ih base s b l. subst (Each Fits) (sym (rows-along mode k base s))
+    (each-append (own-words mode k base s b l) (along-words mode k base s b l (λ j a p q c m. ih j q a p c m))))
 
 -- ---- and all their words
 all-words : {rs : List Record} → Each Fits rs → Each Small (wordsOfAll rs)
@@ -227,5 +235,5 @@ each-words (p and ps) zero = p
 each-words (p and ps) (suc i) = each-words ps i
 
 pub body-words : (d : Dialect) (s : List ℕ) → Bytes s → length s < 2 ^ 64
-    → Words (wordsOfAll (rowsOf (kind.Rpc d) 0 s))
-body-words d s b l = each-words (all-words (rows-words (kind.Rpc d) 0 s b (omega arith)))
+    → Words (wordsOfAll (rowsOf (d .mode) (kind.Rpc (d .edition)) 0 s))
+body-words d s b l = each-words (all-words (rows-words (d .mode) (kind.Rpc (d .edition)) 0 s b (omega arith)))

@@ -9,6 +9,7 @@ use native.Mathlib.Omega.{arith}
 use lib.ListN.{length, length-append}
 use lib.Dec.{eqb}
 use borrow.Author.Tests.{eqb-true}
+use Rattle.basis.specs.declared.Mode.{Mode}
 use Rattle.basis.specs.declared.Dialect.{Dialect}
 use Rattle.basis.specs.Cases.{either}
 use Rattle.utf8.specs.Grammar.{Utf8}
@@ -70,9 +71,10 @@ module _ (d1 d2 d3 d4 d5 d6 : List (List ℕ)) where
       (found m e2 (e3 ++ e4) _ _ (entries-in 2 m d2) (found m e3 e4 _ _ (entries-in 3 m d3) (entries-in 4 m d4))))
       (found m e5 e6 _ _ (entries-in 5 m d5) (entries-in 6 m d6))
 
-message-body : (m : RawMessage) → Sized (encodeMessage m) → Each Utf8 (m .«topic_ids») → IsMessage (encodeMessage m) (renewed m)
+pub message-body : (mode : Mode) (m : RawMessage) → Sized (encodeMessage m) → Each Utf8 (m .«topic_ids»)
+    → IsMessage mode (encodeMessage m) (renewed m)
 unfolding encodeMessage encodeFields mkMessage
-message-body m k u =
+message-body mode m k u =
     let f = m .from in let d = m .«data» in let q = m .seqno in let ts = m .«topic_ids» in let s = m .signature in let y = m .key in
     let x1 = optional (bytesField 1) f in let x2 = optional (bytesField 2) d in let x3 = optional (bytesField 3) q in
     let x4 = repeated (bytesField 4) ts in let x5 = optional (bytesField 5) s in let x6 = optional (bytesField 6) y in
@@ -80,12 +82,12 @@ message-body m k u =
     let l1 = length-append x1 (x2 ++ (x3 ++ x4)) in let l2 = length-append x2 (x3 ++ x4) in let l3 = length-append x3 x4 in
     let l4 = length-append x5 x6 in
     let w = body-append
-    (body-append (bytes-body 1 (omega arith) (omega arith) (opt f) (field-sized 1 f (omega arith)))
-    (body-append (bytes-body 2 (omega arith) (omega arith) (opt d) (field-sized 2 d (omega arith)))
-    (body-append (bytes-body 3 (omega arith) (omega arith) (opt q) (field-sized 3 q (omega arith)))
-    (bytes-body 4 (omega arith) (omega arith) ts (fields-sized 4 ts (omega arith))))))
-    (body-append (bytes-body 5 (omega arith) (omega arith) (opt s) (field-sized 5 s (omega arith)))
-    (bytes-body 6 (omega arith) (omega arith) (opt y) (field-sized 6 y (omega arith)))) in
+    (body-append (bytes-body mode 1 (omega arith) (omega arith) (opt f) (field-sized 1 f (omega arith)))
+    (body-append (bytes-body mode 2 (omega arith) (omega arith) (opt d) (field-sized 2 d (omega arith)))
+    (body-append (bytes-body mode 3 (omega arith) (omega arith) (opt q) (field-sized 3 q (omega arith)))
+    (bytes-body mode 4 (omega arith) (omega arith) ts (fields-sized 4 ts (omega arith))))))
+    (body-append (bytes-body mode 5 (omega arith) (omega arith) (opt s) (field-sized 5 s (omega arith)))
+    (bytes-body mode 6 (omega arith) (omega arith) (opt y) (field-sized 6 y (omega arith)))) in
     let es = sixEntries (opt f) (opt d) (opt q) ts (opt s) (opt y) in
     let i = in-six (opt f) (opt d) (opt q) ts (opt s) (opt y) in
     let i4 : bytesIn 4 es ≡ ts = i 4 ∙ append-nil ts in
@@ -94,7 +96,7 @@ message-body m k u =
     (ap₂ (λ (a b : List ℕ). a ++ b) (optional-opt (bytesField 2) d)
     (ap (λ (a : List ℕ). a ++ x4) (optional-opt (bytesField 3) q))))
     (ap₂ (λ (a b : List ℕ). a ++ b) (optional-opt (bytesField 5) s) (optional-opt (bytesField 6) y)) in
-    means-as IsMessage e
+    means-as (IsMessage mode) e
     (same-message e
     (ap last (i 1 ∙ append-nil (opt f ++ []) ∙ append-nil (opt f)) ∙ last-opt f)
     (ap last (i 2 ∙ append-nil (opt d ++ []) ∙ append-nil (opt d)) ∙ last-opt d)
@@ -104,9 +106,10 @@ message-body m k u =
     (ap last (i 6) ∙ last-opt y))
     (is-message w (subst (Each Utf8) (sym i4) u))
 
-pub message-means : (m : RawMessage) → m .raw ≡ encodeMessage m → Sized (m .raw) → Each Utf8 (m .«topic_ids») → IsMessage (m .raw) m
-message-means m e k u =
-    subst (λ (r : List ℕ). IsMessage r (record {
+pub message-means : (mode : Mode) (m : RawMessage) → m .raw ≡ encodeMessage m → Sized (m .raw)
+    → Each Utf8 (m .«topic_ids») → IsMessage mode (m .raw) m
+message-means mode m e k u =
+    subst (λ (r : List ℕ). IsMessage mode r (record {
       raw = r;
       from = m .from;
       «data» = m .«data»;
@@ -114,42 +117,46 @@ message-means m e k u =
       «topic_ids» = m .«topic_ids»;
       signature = m .signature;
       key = m .key;
-    })) (sym e) (message-body m (subst Sized e k) u)
+    })) (sym e) (message-body mode m (subst Sized e k) u)
 
 each-both : {A : Type 0} {P Q : A → Type 0} {xs : List A} → Each P xs → Each Q xs → Each (λ x. P x × Q x) xs
 each-both none-left none-left = none-left
 each-both (p and ps) (q and qs) = (p, q) and each-both ps qs
 
 -- ---- a control
-sub-opts-of : (o : SubOpts) → Each Utf8 (opt (o .«topic_id»)) → Sized (encodeSubOpts o) → IsSubOpts (encodeSubOpts o) o
+sub-opts-of : (mode : Mode) (o : SubOpts) → Each Utf8 (opt (o .«topic_id»)) → Sized (encodeSubOpts o)
+    → IsSubOpts mode (encodeSubOpts o) o
 unfolding encodeSubOpts
-sub-opts-of o u k =
+sub-opts-of mode o u k =
     let l = length-append (optional (λ b. varintField 1 (flag b)) (o .subscribe)) (optional (bytesField 2) (o .«topic_id»)) in
-    sub-opts-means o (field-sized 2 (o .«topic_id») (omega arith)) u
+    sub-opts-means mode o (field-sized 2 (o .«topic_id») (omega arith)) u
 
-graft-of : (g : ControlGraft) → Each Utf8 (opt (g .«topic_id»)) → Sized (encodeGraft g) → IsGraft (encodeGraft g) g
+graft-of : (mode : Mode) (g : ControlGraft) → Each Utf8 (opt (g .«topic_id»)) → Sized (encodeGraft g)
+    → IsGraft mode (encodeGraft g) g
 unfolding encodeGraft
-graft-of g u k = graft-means g (field-sized 1 (g .«topic_id») k) u
+graft-of mode g u k = graft-means mode g (field-sized 1 (g .«topic_id») k) u
 
-peer-of : (p : PeerInfo) → Sized (encodePeerInfo p) → IsPeerInfo (encodePeerInfo p) p
+peer-of : (mode : Mode) (p : PeerInfo) → Sized (encodePeerInfo p) → IsPeerInfo mode (encodePeerInfo p) p
 unfolding encodePeerInfo
-peer-of p k =
+peer-of mode p k =
     let l = length-append (optional (bytesField 1) (p .«peer_id»)) (optional (bytesField 2) (p .«signed_peer_record»)) in
-    peer-info-means p (field-sized 1 (p .«peer_id») (omega arith)) (field-sized 2 (p .«signed_peer_record») (omega arith))
+    peer-info-means mode p (field-sized 1 (p .«peer_id») (omega arith))
+    (field-sized 2 (p .«signed_peer_record») (omega arith))
 
 every : {A : Type 0} (xs : List A) → Each (λ x. x ≡ x) xs
 every [] = none-left
 every (x ∷ xs) = refl and every xs
 
-prune-of : (p : ControlPrune) → PlainPrune p → Sized (encodePrune p) → IsPrune (encodePrune p) p
+prune-of : (mode : Mode) (p : ControlPrune) → PlainPrune p → Sized (encodePrune p) → IsPrune mode (encodePrune p) p
 unfolding encodePrune
-prune-of p q k =
+prune-of mode p q k =
     let x1 = optional (bytesField 1) (p .«topic_id») in
     let x2 = repeated (λ i. bytesField 2 (encodePeerInfo i)) (p .peers) in
     let x3 = optional (varintField 3) (p .backoff) in
     let l = length-append x1 (x2 ++ x3) in let m = length-append x2 x3 in
-    prune-means p (field-sized 1 (p .«topic_id») (omega arith)) (q .topic)
-    (entries-of IsPeerInfo encodePeerInfo 2 (λ i e z. peer-of i z) (every (p .peers)) (omega arith)) (q .backoff)
+    prune-means mode p (field-sized 1 (p .«topic_id») (omega arith)) (q .topic)
+    (entries-of (IsPeerInfo mode) encodePeerInfo 2 (λ i e z. peer-of mode i z) (every (p .peers)) (omega arith))
+    (q .backoff)
 
 control-of : (d : Dialect) (c : ControlMessage) → PlainControl c → Spoken c → Sized (encodeControl c) → Sound d c
 unfolding encodeControl
@@ -162,11 +169,12 @@ control-of d c p q k =
     let l1 = length-append x1 (x2 ++ (x3 ++ (x4 ++ x5))) in let l2 = length-append x2 (x3 ++ (x4 ++ x5)) in
     let l3 = length-append x3 (x4 ++ x5) in let l4 = length-append x4 x5 in
     record {
-      ihaves = no-entries IsIHave encodeIHave (c .ihave) (q .quiet .ihave);
-      iwants = no-entries IsIWant encodeIWant (c .iwant) (q .quiet .iwant);
-      grafts = entries-of IsGraft encodeGraft 3 graft-of (p .grafts) (omega arith);
-      prunes = entries-of IsPrune encodePrune 4 prune-of (p .prunes) (omega arith);
-      idontwants = subst (IDontWants (d .edition)) (sym (q .quiet .idontwant)) (no-idontwants (d .edition));
+      ihaves = no-entries (IsIHave (d .mode)) encodeIHave (c .ihave) (q .quiet .ihave);
+      iwants = no-entries (IsIWant (d .mode)) encodeIWant (c .iwant) (q .quiet .iwant);
+      grafts = entries-of (IsGraft (d .mode)) encodeGraft 3 (graft-of (d .mode)) (p .grafts) (omega arith);
+      prunes = entries-of (IsPrune (d .mode)) encodePrune 4 (prune-of (d .mode)) (p .prunes) (omega arith);
+      idontwants = subst (IDontWants (d .mode) (d .edition)) (sym (q .quiet .idontwant))
+          (no-idontwants (d .mode) (d .edition));
     }
 
 controls-of : (d : Dialect) (o : Option ControlMessage) → Each PlainControl (opt o) → Each Spoken (opt o)
@@ -188,8 +196,9 @@ pub plain-means : (d : Dialect) (x : Rpc) → Plain x → Sayable x → length (
 plain-means d x p q k =
     let l = rpc-length x in
     rpc-sound d x
-    (entries-of IsSubOpts encodeSubOpts 1 sub-opts-of (p .subscriptions) (omega arith))
-    (entries-of IsMessage (λ m. m .raw) 2 (λ m i z. message-means m (i .0) z (i .1)) (each-both (q .raws) (p .publish)) (omega arith))
+    (entries-of (IsSubOpts (d .mode)) encodeSubOpts 1 (sub-opts-of (d .mode)) (p .subscriptions) (omega arith))
+    (entries-of (IsMessage (d .mode)) (λ m. m .raw) 2 (λ m i z. message-means (d .mode) m (i .0) z (i .1))
+    (each-both (q .raws) (p .publish)) (omega arith))
     (controls-of d (x .control) (p .control) (q .control) (omega arith))
     k
 

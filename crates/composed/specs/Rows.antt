@@ -221,8 +221,12 @@ pub record MessageRows : Type 0 where
       × RefusesUnder 1 (wordsOfAll (bare no (at 2 38))) fields (told key-without-signature [])
       × RefusesUnder 1 (wordsOfAll (bare no (at 0 0))) fields (told key-without-signature [])
       × RefusesUnder 1 (wordsOfAll (bare (at 0 0) no)) fields (told invalid-signature-length (0 ∷ []))
-  -- flags 2: 40, whatever is lent
-  pub unknown : (t b : List ℕ) → RefusesUnder 2 t b (told bad-setting [])
+  -- flags 2 and 3, groups being passed over: as 0 and 1
+  pub groups : WritesUnder 2 (wordsOfAll signed) fields x
+      × RefusesUnder 2 (wordsOfAll (bare no no)) fields (told invalid-signature-length (0 ∷ []))
+      × WritesUnder 3 (wordsOfAll (bare no no)) fields u
+  -- flags 4: 40, whatever is lent
+  pub unknown : (t b : List ℕ) → RefusesUnder 4 t b (told bad-setting [])
   -- with 4,000 bytes of data, and then an empty one: 30 with 4115
   pub long : RefusesAs
       (wordsOfAll (message (at 0 38) (at 104 4104) (at 38 39) (at 40 104) no ∷ topic 39 40 ∷ message no no no no no ∷ []))
@@ -248,7 +252,12 @@ messages =
         refuses-by 1 _ fields (Unfit KeyWithoutSignature) refl,
         refuses-by 1 _ fields (Unfit (InvalidSignatureLength 0)) refl,
       );
-      unknown = λ t b. refuses-by 2 t b BadSetting (tested-unknown 2 t b refl);
+      groups = (
+        writes-by 2 _ fields _ refl refl refl,
+        refuses-by 2 _ fields (Unfit (InvalidSignatureLength 0)) refl,
+        writes-by 3 _ fields _ refl refl refl,
+      );
+      unknown = λ t b. refuses-by 4 t b BadSetting (tested-unknown 4 t b refl);
       long = refuses-by 0 _ _ (Unfit (MessageTooLong 4115)) refl;
     }
 

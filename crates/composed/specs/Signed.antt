@@ -2,39 +2,54 @@
 -- `sign_fields` gives before there is a signature are those that `sign_bytes` finds in every dialect in a body written
 -- with any.
 use Prim.Native.Nat.{ℕ, _≤_}
-use mathlib.Core.Path.{_≡_, refl, sym, ap, _∙_}
-use mathlib.Core.List.{List, _∷_, _++_, map}
+use mathlib.Core.Path.{_≡_, refl, sym, ap, subst, _∙_}
+use mathlib.Core.List.{List, _∷_, _++_, map, append-nil}
 use native.Mathlib.Omega.{arith}
 use lib.ListN.{length, drop, length-append}
-use lib.Dec.{ltb, leb}
-use borrow.Author.Tests.{ltb-false}
+use lib.Dec.{leb}
+use Rattle.basis.specs.declared.Mode.the-variants.{Plain}
 use Rattle.basis.specs.declared.Dialect.{Dialect}
-use Rattle.basis.specs.Cases.{either, clash}
+use Rattle.basis.specs.Cases.{either}
 use Rattle.basis.specs.Writing.{answer, written}
+use Rattle.utf8.specs.Grammar.{Utf8}
 use Rattle.ids.specs.Ids.{messageAt, ofWritten}
 use Rattle.ids.specs.Told.{messageTold}
 use Rattle.rpc.specs.Rpc.{RawMessage, Rpc}
+use Rattle.rpc.specs.Grammar.{Each, IsMessage}
 use Rattle.rpc.specs.Encode.{signPrefix, signBytes}
 use Rattle.meaning.specs.Decoded.{Within}
 use Rattle.canon.specs.Taken.{taken}
 use Rattle.canon.specs.Written.{sign-written}
 use Rattle.canon.specs.Messages.{Nth, here, there}
+use Rattle.canonical.specs.Means.{Sized}
+use Rattle.canonical.specs.Modes.{unsigned}
 use Rattle.canonical.specs.Calls.{found-in}
 use Rattle.encode.specs.Sign as body
 use Rattle.compose.specs.declared.Lists.the-variants.{Fine}
 use Rattle.compose.specs.Lent.{lentRows}
 use Rattle.compose.specs.Said.{encodeFields, encodeMessage, renewed, messagesIn, said}
-use Rattle.admission.specs.Flags.{allowsUnsigned}
-use Rattle.compose.specs.Weighed.{andThen, given, fromFine, seqnoFine, backedFine, topicsFine, sizeFine, limitsFine, weighed, firstUnfit}
+use Rattle.compose.specs.Weighed.{weighed, firstUnfit}
 use Rattle.compose.specs.Compose.{listsOf, putAnswer, answering, leaving, writeTested, signAt, signedAt, signAnswer, signLeft}
 use Rattle.compose.specs.Told.{composedTold}
 use Rattle.compose.specs.Puts.{capped-small}
+use Rattle.composed.specs.Means.{message-body}
 use Rattle.composed.specs.WrittenRows.{both-fine, passed-of}
+use Rattle.composed.specs.Admitted.{weighed-small}
 
 -- ---- what is signed
 pub sign-bytes-are : (m : RawMessage) → signBytes m ≡ signPrefix ++ encodeFields m
 unfolding signBytes encodeFields
 sign-bytes-are m = refl
+
+-- and hold no group: after the prefix they are fields of the first mode, of a message with neither signature nor key
+pub sign-plain : (m : RawMessage) → Sized (encodeFields m) → Each Utf8 (m .«topic_ids»)
+    → IsMessage Plain (encodeFields m) (unsigned (encodeFields m) m)
+unfolding encodeMessage encodeFields
+sign-plain m k u =
+    let b = encodeFields m in
+    let e = append-nil b in
+    subst (λ (x : List ℕ). IsMessage Plain x (unsigned x m)) e
+    (message-body Plain (unsigned b m) (subst Sized (sym e) k) u)
 
 -- two messages with the same from, data, seqno and topics
 pub record SameFields (m n : RawMessage) : Type 0 where
@@ -81,16 +96,16 @@ module _ {d : Dialect} {w : List ℕ} {x : Rpc} (k : Within d w x) (i : ℕ) (m 
   body-tells : (out : List ℕ) → body.signAnswer d w i out ≡ ofWritten (answer (signBytes m) out)
   unfolding body.signAnswer
   body-tells out =
-      let f = found-in i (messageAt w i) (k .means) n refl in
-      ap (body.signChecked w i out) (taken k) ∙ ap (body.signAt w out) (f .2)
-      ∙ ap (λ (l : List ℕ). ofWritten (answer l out)) (sign-written (f .3))
+      let f = found-in i (messageAt (d .mode) w i) (k .means) n refl in
+      ap (body.signChecked (d .mode) w i out) (taken k) ∙ ap (body.signAt (d .mode) w out) (f .2)
+      ∙ ap (λ (l : List ℕ). ofWritten (answer l out)) (sign-written (d .mode) (f .3))
 
   body-leaves : (out : List ℕ) → body.signLeft d w i out ≡ written (signBytes m) out
   unfolding body.signLeft
   body-leaves out =
-      let f = found-in i (messageAt w i) (k .means) n refl in
-      ap (body.signedChecked w i out) (taken k) ∙ ap (body.signedAt w out) (f .2)
-      ∙ ap (λ (l : List ℕ). written l out) (sign-written (f .3))
+      let f = found-in i (messageAt (d .mode) w i) (k .means) n refl in
+      ap (body.signedChecked (d .mode) w i out) (taken k) ∙ ap (body.signedAt (d .mode) w out) (f .2)
+      ∙ ap (λ (l : List ℕ). written l out) (sign-written (d .mode) (f .3))
 
 -- ---- both tell the same of the same bytes, where a number of the machine counts them
 put-told : (xs out : List ℕ) → length xs ≤ 18446744073709551615
@@ -99,19 +114,7 @@ unfolding putAnswer answer
 put-told xs out h =
     either (leb (length xs) (length out)) (λ t. simp t) (λ t. simp (t, capped-small (length xs) h))
 
--- a message that may be written has at most 4,096 bytes, and 14 more are signed
-weighed-small : (flags : ℕ) (m : RawMessage) → weighed flags m ≡ Fine → length (encodeMessage m) ≤ 4096
-unfolding weighed limitsFine sizeFine
-weighed-small flags m h =
-    let l = andThen (topicsFine (m .«topic_ids»)) (sizeFine (length (encodeMessage m))) in
-    let s = backedFine (allowsUnsigned flags) (given (m .from)) (m .signature) (m .key) in
-    let q = seqnoFine (given (m .seqno)) in
-    let a = both-fine (fromFine (m .from)) (andThen q (andThen s l)) h in
-    let b = both-fine q (andThen s l) (a .1) in
-    let c = both-fine s l (b .1) in
-    let d = both-fine (topicsFine (m .«topic_ids»)) (sizeFine (length (encodeMessage m))) (c .1) in
-    either (ltb 4096 (length (encodeMessage m))) (λ t. clash (let z = simp t at (d .1) in cc)) (λ t. ltb-false _ _ t)
-
+-- 14 bytes more than a message has are signed
 sign-small : (m : RawMessage) → length (encodeMessage m) ≤ 4096 → length (signBytes m) ≤ 18446744073709551615
 unfolding encodeMessage
 sign-small m h = rw (sign-bytes-are m) (omega (arith, simp length-append at h, length-append signPrefix (encodeFields m)))

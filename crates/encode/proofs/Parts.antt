@@ -7,6 +7,7 @@ use native.Mathlib.Omega.{arith}
 use native.Mathlib.Nat.{zero-add}
 use lib.ListN.{length, length-append}
 use borrow.Author.Tests.{eq-eqb, ne-eqb}
+use Rattle.basis.specs.declared.Mode.{Mode}
 use Rattle.basis.specs.declared.Edition.{Edition}
 use Rattle.basis.specs.declared.Edition.the-variants.{V11, V12}
 use Rattle.basis.specs.declared.Written.the-variants.{Bytes, Room}
@@ -80,11 +81,11 @@ added-few V11 = omega arith
 added-few V12 = omega arith
 
 pub few-rows : (k : Kind) → length (table k) ≤ 6
-few-rows (kind.Rpc d) = omega arith
+few-rows (kind.Rpc e) = omega arith
 few-rows kind.SubOpts = omega arith
 few-rows kind.RawMessage = omega arith
 few-rows kind.Topic = omega arith
-few-rows (kind.ControlMessage d) = omega (arith, added-few (d .edition))
+few-rows (kind.ControlMessage e) = omega (arith, added-few e)
 few-rows kind.ControlIHave = omega arith
 few-rows kind.ControlIWant = omega arith
 few-rows kind.MessageId = omega arith
@@ -122,30 +123,30 @@ pub depth-rank : (k : Kind) (n : ℕ) (h : Held) → h ≡ heldOf (rowOf k n) �
 depth-rank k n h e = depth-of k n h (sym e)
 
 -- what is written of entries, by how they are written
-pub held-is : (n : ℕ) (s : List ℕ) (h x : Held) → h ≡ x → heldPart canon n s h ≡ heldPart canon n s x
-held-is n s h x e = ap (heldPart canon n s) e
+pub held-is : (mode : Mode) (n : ℕ) (s : List ℕ) (h x : Held) → h ≡ x → heldPart mode (canon mode) n s h ≡ heldPart mode (canon mode) n s x
+held-is mode n s h x e = ap (heldPart mode (canon mode) n s) e
 
 -- a row: its singular field, and where that ends its entries; t are the slots, r the role and h how entries are written
-module _ (t : Slots) (k : Kind) (s : List ℕ) (n : ℕ) (r : Role) (q : t ≡ slotsOf k s) (e : r ≡ rowOf k n) where
-  own-same : ownPart (slotsOf k s) n s (rowOf k n) ≡ ownPart t n s r
+module _ (mode : Mode) (t : Slots) (k : Kind) (s : List ℕ) (n : ℕ) (r : Role) (q : t ≡ slotsOf mode k s) (e : r ≡ rowOf k n) where
+  own-same : ownPart (slotsOf mode k s) n s (rowOf k n) ≡ ownPart t n s r
   own-same = rw (q, e)
 
-  pub own-fits : (at : ℕ) → Fits at (ownPart (slotsOf k s) n s (rowOf k n)) → Fits at (ownPart t n s r)
+  pub own-fits : (at : ℕ) → Fits at (ownPart (slotsOf mode k s) n s (rowOf k n)) → Fits at (ownPart t n s r)
   own-fits at f = fits-same at _ _ own-same f
 
   module _ (h : Held) (x : h ≡ heldOf (rowOf k n)) {out mid : List ℕ} {at i : ℕ} (p : Puts out at (ownPart t n s r) mid i) where
-    own-puts : Puts out at (ownPart (slotsOf k s) n s (rowOf k n)) mid i
+    own-puts : Puts out at (ownPart (slotsOf mode k s) n s (rowOf k n)) mid i
     own-puts = puts-same out at _ _ mid i (sym own-same) p
 
-    pub held-fits : Fits at (partWith canon k s n) → Fits i (heldPart canon n s h)
-    held-fits f = fits-same i _ _ (ap (heldPart canon n s) (sym x)) (fits-next out mid at i _ _ own-puts f)
+    pub held-fits : Fits at (partWith mode (canon mode) k s n) → Fits i (heldPart mode (canon mode) n s h)
+    held-fits f = fits-same i _ _ (ap (heldPart mode (canon mode) n s) (sym x)) (fits-next out mid at i _ _ own-puts f)
 
-    pub row-puts : {after : List ℕ} {end : ℕ} → Puts mid i (heldPart canon n s h) after end → Puts out at (partWith canon k s n) after end
-    row-puts {after} {end} z = puts-append out mid after at i end _ _ own-puts (puts-same mid i _ _ after end (ap (heldPart canon n s) x) z)
+    pub row-puts : {after : List ℕ} {end : ℕ} → Puts mid i (heldPart mode (canon mode) n s h) after end → Puts out at (partWith mode (canon mode) k s n) after end
+    row-puts {after} {end} z = puts-append out mid after at i end _ _ own-puts (puts-same mid i _ _ after end (ap (heldPart mode (canon mode) n s) x) z)
 
 -- ---- a step of the walk
-pub each-field : (g : List ℕ → List ℕ) (n : ℕ) (s : List ℕ) (i : ℕ) (f : Field) → step.At f ≡ readField s i → eachAlong g n s (walkAt s i) ≡ cond (isBytes n f) (g (valueIn s f)) [] ++ eachAlong g n s (walkAt s (f .next))
-each-field g n s i f h = ap (eachAlong g n s) (walk-on s i (step.At f) h)
+pub each-field : (mode : Mode) (g : List ℕ → List ℕ) (n : ℕ) (s : List ℕ) (i : ℕ) (f : Field) → step.At f ≡ readField mode s i → eachAlong g n s (walkAt mode s i) ≡ cond (isBytes n f) (g (valueIn s f)) [] ++ eachAlong g n s (walkAt mode s (f .next))
+each-field mode g n s i f h = ap (eachAlong g n s) (walk-on mode s i (step.At f) h)
 
 -- ---- a field n that holds d, whose length was measured: a head, and d where it ends
 module _ (n : ℕ) (xs d : List ℕ) (at : ℕ) (y : xs ≡ bytesField n d) (h : Fits at xs) where

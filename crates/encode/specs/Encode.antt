@@ -1,5 +1,5 @@
 -- Re-encoding a body: what `encode` answers and what it leaves. Refusals come in the order of the scope's table: 10, 1
--- to 7, 11, 12.
+-- to 7 and 14 to 16, 11, 12.
 use Prim.Native.Nat.{ℕ}
 use mathlib.Core.List.{List}
 use Rattle.basis.specs.declared.Dialect.{Dialect}

@@ -2,6 +2,7 @@
 use Prim.Native.Nat.{ℕ}
 use mathlib.Core.Path.{_≡_, refl}
 use mathlib.Core.List.{List}
+use Rattle.basis.specs.declared.Mode.{Mode}
 use Rattle.basis.specs.declared.Dialect.{Dialect}
 use Rattle.basis.specs.declared.Written.{Written}
 use Rattle.basis.specs.Lists.{refused-write}
@@ -31,17 +32,19 @@ pub refused-encode : (d : Dialect) (s out : List ℕ) → (encodedTold (encodeAn
 unfolding encodeAnswer encodeLeft
 refused-encode d s out h = encode-by d s out (acceptOf d s) h
 
-sign-by-place : (s out : List ℕ) (m : MessageAt) → (messageTold (signAt s out m) .number ≡ 0 → ⊥)
-    → signedAt s out m ≡ out
-sign-by-place s out (Count n) h = refl
-sign-by-place s out (At a e) h = refused-bytes (signOf (between s a e)) out h
+sign-by-place : (mode : Mode) (s out : List ℕ) (m : MessageAt) → (messageTold (signAt mode s out m) .number ≡ 0 → ⊥)
+    → signedAt mode s out m ≡ out
+sign-by-place mode s out (Count n) h = refl
+sign-by-place mode s out (At a e) h = refused-bytes (signOf mode (between s a e)) out h
 
-sign-by : (s : List ℕ) (i : ℕ) (out : List ℕ) (c : Checked) → (messageTold (signChecked s i out c) .number ≡ 0 → ⊥)
-    → signedChecked s i out c ≡ out
-sign-by s i out (Wrong why) h = refl
-sign-by s i out Fine h = sign-by-place s out (messageAt s i) h
+sign-by : (mode : Mode) (s : List ℕ) (i : ℕ) (out : List ℕ) (c : Checked)
+    → (messageTold (signChecked mode s i out c) .number ≡ 0 → ⊥)
+    → signedChecked mode s i out c ≡ out
+sign-by mode s i out (Wrong why) h = refl
+sign-by mode s i out Fine h = sign-by-place mode s out (messageAt mode s i) h
 
-pub refused-sign : (d : Dialect) (s : List ℕ) (i : ℕ) (out : List ℕ) → (messageTold (signAnswer d s i out) .number ≡ 0 → ⊥)
+pub refused-sign : (d : Dialect) (s : List ℕ) (i : ℕ) (out : List ℕ)
+    → (messageTold (signAnswer d s i out) .number ≡ 0 → ⊥)
     → signLeft d s i out ≡ out
 unfolding signAnswer signLeft
-refused-sign d s i out h = sign-by s i out (acceptOf d s) h
+refused-sign d s i out h = sign-by (d .mode) s i out (acceptOf d s) h

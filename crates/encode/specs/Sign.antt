@@ -1,5 +1,5 @@
 -- The bytes of one message of a body that are signed: what `sign_bytes` answers and leaves. Refusals come in the order
--- of the scope's table: 10, 1 to 7, 11, 20, 12.
+-- of the scope's table: 10, 1 to 7 and 14 to 16, 11, 20, 12.
 use Prim.Native.Nat.{ℕ}
 use mathlib.Core.List.{List}
 use Rattle.basis.specs.declared.Mode.{Mode}

@@ -192,7 +192,8 @@ whereAccepted (checked.Refused why) m = none
 
 unfoldable pub brought : ℕ → Call → Option (List ℕ)
 brought flags (admit ed body i word at) =
-    whereAccepted (acceptOf (spoken (modeOf flags) ed) body) (standing flags word body (messageAt (modeOf flags) body i))
+    whereAccepted (acceptOf (spoken (modeOf flags) ed) body)
+    (standing flags word body (messageAt (modeOf flags) body i))
 brought flags (heartbeat at) = none
 brought flags (advertise topic windows out) = none
 brought flags (ask ed body out) = none

@@ -8,7 +8,7 @@ use mathlib.Core.Logic.{_↔_}
 use mathlib.Core.Option.{Option, none, some}
 use native.Mathlib.Omega.{arith}
 use Rattle.basis.specs.declared.Edition.{Edition}
-use Rattle.basis.specs.Dialect.{spoken}
+use Rattle.basis.specs.Dialect.{modeOf, spoken}
 use Rattle.basis.specs.Cases.{either, clash}
 use Rattle.rows.specs.IdsLaws.{same-self, same-equal}
 use Rattle.protobuf.specs.declared.Checked.{Checked}
@@ -156,7 +156,8 @@ module _ (s : State) (ed : Edition) (body : List ℕ) (i : ℕ) (word : Bool) (a
   -- that takes a message
   module _ (m id : List ℕ) (e : planIn s ed body i word at ≡ taken m id) where
     pub taken-number : refusalAt s (admit ed body i word at) ≡ 0
-    taken-number = rw e (either (heldAt (s .node) (s .ids) at (formOf m id)) (λ t. simp t) (λ t. simp t))
+    taken-number = rw e (either (heldAt (s .node) (s .ids) at (formOf (modeOf (s .node .cache .flags)) m id))
+        (λ t. simp t) (λ t. simp t))
 
     pub admit-leaves : Typed (s .node)
         → gatewayOf (after (admit ed body i word at) s) ≡ afterAdmit at m id (gatewayOf s)
@@ -186,7 +187,8 @@ plan-stays : (s : State) (at : ℕ) (p : Plan) → (admitNumber (admitAnswer (s 
     } ≡ s
 plan-stays s at (no r) h = refl
 plan-stays s at (taken m id) h =
-    absurd (h (either (heldAt (s .node) (s .ids) at (formOf m id)) (λ t. simp t) (λ t. simp t)))
+    absurd (h (either (heldAt (s .node) (s .ids) at (formOf (modeOf (s .node .cache .flags)) m id)) (λ t. simp t)
+    (λ t. simp t)))
 
 beat-stays : (s : State) (at : ℕ) (r : Beat) → beatAnswer (s .node) (s .ids) (s .messages) at ≡ r
     → (beatNumber r ≡ 0 → ⊥) → beatNode (s .node) (s .ids) (s .messages) at ≡ s .node
@@ -211,7 +213,8 @@ plan-flags : (n : Node) (ss : List ℕ) (at : ℕ) (p : Plan) → admitNode n ss
 unfolding laterNode
 plan-flags n ss at (no r) = refl
 plan-flags n ss at (taken m id) =
-    either (heldAt n ss at (formOf m id)) (λ t. rw t) (λ t. rw t (under-settings m id (n .cache) .2))
+    either (heldAt n ss at (formOf (modeOf (n .cache .flags)) m id)) (λ t. rw t)
+    (λ t. rw t (under-settings m id (n .cache) .2))
 
 beat-flags : (n : Node) (ss cs : List ℕ) (at : ℕ) (r : Beat) → beatAnswer n ss cs at ≡ r
     → beatNode n ss cs at .cache .flags ≡ n .cache .flags
@@ -243,19 +246,21 @@ history-flags {x} {s} calls f = all-flags calls s ∙ fresh-flags f
 -- an admit brings m exactly where m is vouched for, the body is accepted, and m stands at the index
 module _ (flags : ℕ) (ed : Edition) (body : List ℕ) (i : ℕ) (at : ℕ) where
   vouched-brought : (word : Bool) (m : List ℕ) → vouched flags m word ≡ true
-      → acceptOf (spoken ed) body ≡ checked.Fine → Placed body i m → brought flags (admit ed body i word at) ≡ some m
+      → acceptOf (spoken (modeOf flags) ed) body ≡ checked.Fine → Placed (modeOf flags) body i m
+      → brought flags (admit ed body i word at) ≡ some m
   unfolding brought
   vouched-brought word m v ok p = rw (ok, p .found, p .bytes, v)
 
   -- so does each with the host's word
-  pub carried-brought : (m : List ℕ) → acceptOf (spoken ed) body ≡ checked.Fine → Placed body i m
+  pub carried-brought : (m : List ℕ) → acceptOf (spoken (modeOf flags) ed) body ≡ checked.Fine
+      → Placed (modeOf flags) body i m
       → brought flags (admit ed body i true at) ≡ some m
   unfolding vouched
   carried-brought m ok p = vouched-brought true m refl ok p
 
   module _ (word : Bool) (m : List ℕ) where
-    brought-at : (r : MessageAt) → messageAt body i ≡ r → standing flags word body r ≡ some m
-        → (vouched flags m word ≡ true) × Placed body i m
+    brought-at : (r : MessageAt) → messageAt (modeOf flags) body i ≡ r → standing flags word body r ≡ some m
+        → (vouched flags m word ≡ true) × Placed (modeOf flags) body i m
     brought-at (At a e) q h =
         either (vouched flags (between body a e) word)
         (λ t.
@@ -265,16 +270,18 @@ module _ (flags : ℕ) (ed : Edition) (body : List ℕ) (i : ℕ) (at : ℕ) whe
         (λ t. clash (let b = rw t at h in cc))
     brought-at (Count n) q h = clash (cc)
 
-    brought-accepted : (r : Checked) → acceptOf (spoken ed) body ≡ r
-        → whereAccepted r (standing flags word body (messageAt body i)) ≡ some m
-        → (vouched flags m word ≡ true) × (acceptOf (spoken ed) body ≡ checked.Fine) × Placed body i m
-    brought-accepted checked.Fine e h = let p = brought-at (messageAt body i) refl h in (p .0, e, p .1)
+    brought-accepted : (r : Checked) → acceptOf (spoken (modeOf flags) ed) body ≡ r
+        → whereAccepted r (standing flags word body (messageAt (modeOf flags) body i)) ≡ some m
+        → (vouched flags m word ≡ true) × (acceptOf (spoken (modeOf flags) ed) body ≡ checked.Fine)
+        × Placed (modeOf flags) body i m
+    brought-accepted checked.Fine e h = let p = brought-at (messageAt (modeOf flags) body i) refl h in (p .0, e, p .1)
     brought-accepted (checked.Refused why) e h = clash (cc)
 
     pub brought-carried : brought flags (admit ed body i word at) ≡ some m
-        → (vouched flags m word ≡ true) × (acceptOf (spoken ed) body ≡ checked.Fine) × Placed body i m
+        → (vouched flags m word ≡ true) × (acceptOf (spoken (modeOf flags) ed) body ≡ checked.Fine)
+        × Placed (modeOf flags) body i m
     unfolding brought
-    brought-carried h = brought-accepted (acceptOf (spoken ed) body) refl h
+    brought-carried h = brought-accepted (acceptOf (spoken (modeOf flags) ed) body) refl h
 
 brings-brought : (m : List ℕ) (o : Option (List ℕ)) → isThat m o ≡ true → o ≡ some m
 brings-brought m none h = clash (cc)
@@ -286,7 +293,8 @@ brings-that flags m c = (brings-brought m (brought flags c), λ e. rw e (same-se
 
 pub brings-exactly : (flags : ℕ) (m : List ℕ) (ed : Edition) (body : List ℕ) (i : ℕ) (word : Bool) (at : ℕ)
     → (brings flags m (admit ed body i word at) ≡ true)
-    ↔ ((vouched flags m word ≡ true) × (acceptOf (spoken ed) body ≡ checked.Fine) × Placed body i m)
+    ↔ ((vouched flags m word ≡ true) × (acceptOf (spoken (modeOf flags) ed) body ≡ checked.Fine)
+    × Placed (modeOf flags) body i m)
 brings-exactly flags m ed body i word at = (
   λ h. brought-carried flags ed body i at word m (brings-that flags m (admit ed body i word at) .0 h),
   λ p. brings-that flags m (admit ed body i word at) .1
@@ -303,6 +311,9 @@ module _ (s : State) (flags : ℕ) (same : gatewayOf s .flags ≡ flags) (ed : E
   unfolding gatewayIn
   here = same
 
+  same-mode : modeOf (s .node .cache .flags) ≡ modeOf flags
+  same-mode = ap modeOf here
+
   -- a message that passes admission, where the state is well formed and the clock does not go back
   pub brought-plan : (m id : List ℕ) → brought flags (admit ed body i word at) ≡ some m → givesId flags m id ≡ true
       → lentOf (s .node) (s .ids) (s .messages) ≡ lent.Fine → s .node .clock ≤ at
@@ -312,7 +323,7 @@ module _ (s : State) (flags : ℕ) (same : gatewayOf s .flags ≡ flags) (ed : E
       let c = brought-carried flags ed body i at word m e in
       let p = c .2 in
       let v = vouched-same (s .node .cache .flags) m word (rw here (c .0)) in
-      rw (fine, c .1, p .found, p .bytes, v) (fit-plan (s .node) at m id (rw here own) h)
+      rw (fine, same-mode, c .1, same-mode, p .found, p .bytes, v) (fit-plan (s .node) at m id (rw here own) h)
 
   of-fit : (p : List ℕ) (r : Admission) → admissionOf (s .node .cache .flags) p word ≡ r → vouched flags p word ≡ false
       → TakesNone (planFit (s .node) at p r)
@@ -327,20 +338,21 @@ module _ (s : State) (flags : ℕ) (same : gatewayOf s .flags ≡ flags) (ed : E
       (λ t. of-fit p (admissionOf (s .node .cache .flags) p word) refl t)
   of-at (Count n) h = (answer.NoMessage n, refl)
 
-  of-body : (r : Checked) → whereAccepted r (standing flags word body (messageAt body i)) ≡ none
+  of-body : (r : Checked) → whereAccepted r (standing flags word body (messageAt (modeOf flags) body i)) ≡ none
       → TakesNone (planBody (s .node) at word body i r)
-  of-body checked.Fine h = of-at (messageAt body i) h
+  of-body checked.Fine h = rw same-mode (of-at (messageAt (modeOf flags) body i) h)
   of-body (checked.Refused why) h = (answer.Refused why, refl)
 
-  of-lent : (l : Lent) → whereAccepted (acceptOf (spoken ed) body) (standing flags word body (messageAt body i)) ≡ none
+  of-lent : (l : Lent) → whereAccepted (acceptOf (spoken (modeOf flags) ed) body)
+      (standing flags word body (messageAt (modeOf flags) body i)) ≡ none
       → TakesNone
       (onLent (λ (why : Fault). no (answer.Faulty why)) l
-      (planBody (s .node) at word body i (acceptOf (spoken ed) body)))
-  of-lent lent.Fine h = of-body (acceptOf (spoken ed) body) h
+      (planBody (s .node) at word body i (acceptOf (spoken (modeOf flags) ed) body)))
+  of-lent lent.Fine h = of-body (acceptOf (spoken (modeOf flags) ed) body) h
   of-lent (lent.Faulty why) h = (answer.Faulty why, refl)
 
   -- where it brings nothing, it takes nothing
   pub unbrought-plan : brought flags (admit ed body i word at) ≡ none
       → (r : Admit) × (planIn s ed body i word at ≡ no r)
   unfolding planned brought
-  unbrought-plan h = of-lent (lentOf (s .node) (s .ids) (s .messages)) h
+  unbrought-plan h = rw same-mode (of-lent (lentOf (s .node) (s .ids) (s .messages)) h)

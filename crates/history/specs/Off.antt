@@ -1,10 +1,11 @@
--- Where the flags allow no unsigned message, a call brings what it brought before there were flags.
+-- Where the flags allow no unsigned message, a call brings what it brought before there were flags, in their mode.
 use Prim.Native.Nat.{ℕ}
 use mathlib.Core.Path.{_≡_, refl}
 use mathlib.Core.Bool.{Bool, true, false, cond}
 use mathlib.Core.List.{List}
 use mathlib.Core.Option.{Option, none, some}
-use Rattle.basis.specs.Dialect.{spoken}
+use Rattle.basis.specs.declared.Mode.{Mode}
+use Rattle.basis.specs.Dialect.{modeOf, spoken}
 use Rattle.protobuf.specs.declared.Checked.{Checked}
 use Rattle.protobuf.specs.declared.Checked.the-variants as checked
 use Rattle.protobuf.specs.Walk.{between}
@@ -22,14 +23,14 @@ abbrev pub standingWas : List ℕ → MessageAt → Option (List ℕ)
 standingWas body (At a e) = some (between body a e)
 standingWas body (Count n) = none
 
-unfoldable pub broughtWas : Call → Option (List ℕ)
-broughtWas (admit ed body i word at) =
-    cond word (whereAccepted (acceptOf (spoken ed) body) (standingWas body (messageAt body i))) none
-broughtWas (heartbeat at) = none
-broughtWas (advertise topic windows out) = none
-broughtWas (ask ed body out) = none
-broughtWas (serve ed body second out) = none
-broughtWas (explain id topic windows) = none
+unfoldable pub broughtWas : Mode → Call → Option (List ℕ)
+broughtWas mode (admit ed body i word at) =
+    cond word (whereAccepted (acceptOf (spoken mode ed) body) (standingWas body (messageAt mode body i))) none
+broughtWas mode (heartbeat at) = none
+broughtWas mode (advertise topic windows out) = none
+broughtWas mode (ask ed body out) = none
+broughtWas mode (serve ed body second out) = none
+broughtWas mode (explain id topic windows) = none
 
 -- ---- with the flag off it is that
 module _ (flags : ℕ) (off : allowsUnsigned flags ≡ false) where
@@ -47,11 +48,12 @@ module _ (flags : ℕ) (off : allowsUnsigned flags ≡ false) where
   accepted-off true (checked.Refused why) now was e = refl
   accepted-off false (checked.Refused why) now was e = refl
 
-  pub brought-off : (c : Call) → brought flags c ≡ broughtWas c
+  pub brought-off : (c : Call) → brought flags c ≡ broughtWas (modeOf flags) c
   unfolding brought broughtWas
   brought-off (admit ed body i word at) =
-      accepted-off word (acceptOf (spoken ed) body) (standing flags word body (messageAt body i))
-      (standingWas body (messageAt body i)) (standing-off word body (messageAt body i))
+      accepted-off word (acceptOf (spoken (modeOf flags) ed) body)
+      (standing flags word body (messageAt (modeOf flags) body i))
+      (standingWas body (messageAt (modeOf flags) body i)) (standing-off word body (messageAt (modeOf flags) body i))
   brought-off (heartbeat at) = refl
   brought-off (advertise topic windows out) = refl
   brought-off (ask ed body out) = refl

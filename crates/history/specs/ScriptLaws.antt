@@ -6,6 +6,7 @@ use mathlib.Core.Bool.{true, cond}
 use mathlib.Core.List.{List, [], _∷_}
 use mathlib.Core.Option.{some}
 use native.Mathlib.Omega.{arith}
+use Rattle.basis.specs.Dialect.{modeOf}
 use Rattle.basis.specs.declared.Edition.{Edition}
 use Rattle.basis.specs.Cases.{either}
 use Rattle.rows.specs.Ids.{sameBytes}
@@ -41,14 +42,16 @@ module _ (flags : ℕ) (s : State) (kept : Kept s) (ed : Edition) (body m id : L
     admit-new : countAt newAnswer flags k s (admit ed body 0 true at) ≡ newBy k (gets ed body m id at) (gatewayOf s)
     admit-new =
         let n = is-new (s .node) (s .ids) (s .messages) (kept .fine) at m id in
-        rw (b, e, n) (either (heldAt (s .node) (s .ids) at (formOf m id)) (λ t. rw t) (λ t. rw t))
+        rw (b, e, n) (either (heldAt (s .node) (s .ids) at (formOf (modeOf (s .node .cache .flags)) m id)) (λ t. rw t)
+        (λ t. rw t))
 
     admit-answered : gotBy k (gets ed body m id at) ≡ countAt newAnswer flags k s (admit ed body 0 true at)
         + countAt isDuplicate flags k s (admit ed body 0 true at)
     admit-answered =
         rw (b, e)
         (either (sameBytes m k)
-        (λ t. either (heldAt (s .node) (s .ids) at (formOf m id)) (λ u. rw (t, u)) (λ u. rw (t, u)))
+        (λ t. either (heldAt (s .node) (s .ids) at (formOf (modeOf (s .node .cache .flags)) m id)) (λ u. rw (t, u))
+        (λ u. rw (t, u)))
         (λ t. rw t))
 
 -- an ask

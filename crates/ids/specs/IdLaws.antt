@@ -21,7 +21,8 @@ use Rattle.ids.specs.declared.MessageId.the-variants as id
 use Rattle.ids.specs.Ids.{messageAlong, messageAt, onSeqno, onFrom, idParts, idBytes}
 
 -- a message that is found lies within the body
-along-inside : (mode : Mode) (s : List ℕ) (i a e : ℕ) (at n : ℕ) → messageAlong i n (walkAt mode s at) ≡ At a e → (a ≤ e) × (e ≤ length s)
+along-inside : (mode : Mode) (s : List ℕ) (i a e : ℕ) (at n : ℕ) → messageAlong i n (walkAt mode s at) ≡ At a e
+    → (a ≤ e) × (e ≤ length s)
 along-inside mode s i a e =
     along mode s (λ (at : ℕ) (w : Fields). (n : ℕ) → messageAlong i n w ≡ At a e → (a ≤ e) × (e ≤ length s))
     (λ at n h. clash (cc))
@@ -78,7 +79,8 @@ pub id-fits : (mode : Mode) (p : List ℕ) (a e b f : ℕ) → idParts mode p �
 unfolding idParts
 id-fits mode p a e b f h =
     let g = slots-inside mode kind.RawMessage p in
-    of-from p a e b f (slotsOf mode kind.RawMessage p .first) (slotsOf mode kind.RawMessage p .third) (g .first) (g .third) h
+    of-from p a e b f (slotsOf mode kind.RawMessage p .first) (slotsOf mode kind.RawMessage p .third) (g .first)
+    (g .third) h
 
 -- and stand where these fields of the message do
 seqno-there : (x y a e b f : ℕ) (q : Place) → onSeqno x y q ≡ id.Parts a e b f → (x ≡ a) × (y ≡ e)
@@ -97,7 +99,8 @@ from-there a e b f (place.Present x y) r h =
     (λ t. let s = seqno-there x y a e b f r (simp t at h) in (rw (s .0, s .1), s .2))
 
 pub parts-there : (mode : Mode) (p : List ℕ) (a e b f : ℕ) → idParts mode p ≡ id.Parts a e b f
-    → (slotsOf mode kind.RawMessage p .first ≡ place.Present a e) × (slotsOf mode kind.RawMessage p .third ≡ place.Present b f)
+    → (slotsOf mode kind.RawMessage p .first ≡ place.Present a e)
+    × (slotsOf mode kind.RawMessage p .third ≡ place.Present b f)
 unfolding idParts
 parts-there mode p a e b f h =
     from-there a e b f (slotsOf mode kind.RawMessage p .first) (slotsOf mode kind.RawMessage p .third) h
@@ -124,10 +127,12 @@ some-from a e b f (place.Present x y) r h =
 
 pub id-some : (mode : Mode) (p : List ℕ) (a e b f : ℕ) → idParts mode p ≡ id.Parts a e b f → (1 ≤ e - a) × (1 ≤ f - b)
 unfolding idParts
-id-some mode p a e b f h = some-from a e b f (slotsOf mode kind.RawMessage p .first) (slotsOf mode kind.RawMessage p .third) h
+id-some mode p a e b f h = some-from a e b f (slotsOf mode kind.RawMessage p .first)
+    (slotsOf mode kind.RawMessage p .third) h
 
 -- an id has 2 to 128 bytes
-pub id-size : (mode : Mode) (p : List ℕ) (a e b f : ℕ) → idParts mode p ≡ id.Parts a e b f → (2 ≤ length (idBytes p a e b f))
+pub id-size : (mode : Mode) (p : List ℕ) (a e b f : ℕ) → idParts mode p ≡ id.Parts a e b f
+    → (2 ≤ length (idBytes p a e b f))
     × (length (idBytes p a e b f) ≤ 128)
 id-size mode p a e b f h =
     let g = id-fits mode p a e b f h in

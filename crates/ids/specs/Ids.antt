@@ -1,5 +1,5 @@
 -- One message of a body, and its id: what `message_id` answers and leaves. Refusals come in the order of the scope's
--- table: 10, 1 to 7, 11, 20, 21, 22, 23, 12.
+-- table: 10, 1 to 7 and 14 to 16, 11, 20, 21, 22, 23, 12.
 use Prim.Native.Nat.{ℕ, _+_, _-_}
 use mathlib.Core.List.{List, [], _∷_, _++_}
 use mathlib.Core.Bool.{Bool, true, false, cond, _||_}

@@ -31,7 +31,8 @@ by-id pre p out (id.InvalidFrom n) h = refl
 by-id pre p out id.InvalidSeqno h = refl
 by-id pre p out (id.Parts a e b f) h = refused-bytes (pre ++ idBytes p a e b f) out h
 
-by-place : (mode : Mode) (pre s out : List ℕ) (m : MessageAt) → (messageTold (answerAt mode pre s out m) .number ≡ 0 → ⊥)
+by-place : (mode : Mode) (pre s out : List ℕ) (m : MessageAt)
+    → (messageTold (answerAt mode pre s out m) .number ≡ 0 → ⊥)
     → leftAt mode pre s out m ≡ out
 by-place mode pre s out (Count n) h = refl
 by-place mode pre s out (At a e) h = by-id pre (between s a e) out (idParts mode (between s a e)) h
@@ -47,7 +48,8 @@ refused-marked : (pre : List ℕ) (d : Dialect) (s : List ℕ) (i : ℕ) (out : 
 unfolding idAnswer idLeft
 refused-marked pre d s i out h = by-body (d .mode) pre s i out (acceptOf d s) h
 
-pub refused-id : (d : Dialect) (s : List ℕ) (i : ℕ) (out : List ℕ) → (messageTold (idAnswer [] d s i out) .number ≡ 0 → ⊥)
+pub refused-id : (d : Dialect) (s : List ℕ) (i : ℕ) (out : List ℕ)
+    → (messageTold (idAnswer [] d s i out) .number ≡ 0 → ⊥)
     → idLeft [] d s i out ≡ out
 refused-id d s i out h = refused-marked [] d s i out h
 

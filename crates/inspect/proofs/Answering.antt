@@ -3,7 +3,7 @@ use Prim.Native.Nat.{ℕ, _+_, _-_, _≤_, _<_}
 use mathlib.Core.Path.{_≡_, refl, sym, _∙_}
 use mathlib.Core.List.{List, [], _∷_, _++_}
 use mathlib.Core.Logic.{_≢_}
-use mathlib.Core.Bool.{true, false}
+use mathlib.Core.Bool.{Bool, true, false}
 use native.Mathlib.Omega.{arith}
 use lib.ListN.{length, take, drop, length-drop, length-take, drop-of-length-le}
 use lib.Seq.{take-all}
@@ -11,6 +11,10 @@ use lib.Dec.{leb, ltb}
 use borrow.Author.Tests.{ltb-true, ltb-false, lt-ltb, le-ltb, le-leb, lt-leb, ne-eqb}
 use Rattle.basis.specs.Cases.{either}
 use Rattle.basis.specs.Little.{little}
+use Rattle.basis.specs.declared.Mode.{Mode}
+use Rattle.basis.specs.declared.Mode.the-variants.{Plain}
+use Rattle.basis.specs.declared.Dialect.{Dialect}
+use Rattle.basis.specs.Dialect.{dialectOf}
 use Rattle.basis.specs.declared.Told.{Told}
 use Rattle.text.specs.Line.{Puts, decimal, number, hex}
 use Rattle.text.specs.Laws.{puts-then, puts-as}
@@ -32,18 +36,41 @@ use Rattle.lines.specs.Lines.{Wrote, refusal}
 use Rattle.lines.specs.Laws.{wrote-as, puts-wrote}
 use Rattle.inspect.specs.Records.{bytesText}
 use Rattle.inspect.specs.Senders.{keyText, peerIdText, keyAnswer, peerAnswer}
-use Rattle.inspect.specs.Answers.{walk, varint, walkAnswer, varintAnswer, utf8Answer, answerTo, closed, lineOf}
+use Rattle.inspect.specs.Answers.{walk, varint, walkAnswer, spokenAnswer, varintAnswer, utf8Answer, answerTo, closed, lineOf}
 
 -- ---- an answer
-pub walk-short : (s : List ℕ) → length s < 8 → [] ≡ walkAnswer s
+pub walk-short : (mode : Mode) (s : List ℕ) → length s < 8 → [] ≡ walkAnswer mode s
 unfolding walkAnswer
-walk-short s h = simp (lt-ltb _ _ h)
+walk-short mode s h = simp (lt-ltb _ _ h)
 
-pub walk-answer : (s : List ℕ) (at : ℕ) (w : Walk) → 8 ≤ length s → at ≡ little (take 8 (drop 0 s)) → w ≡ walkStep (take (length s - 8) (drop 8 s)) at → (32 ∷ 119 ∷ 97 ∷ 108 ∷ 107 ∷ []) ++ walk w ≡ walkAnswer s
+pub walk-answer : (mode : Mode) (s : List ℕ) (at : ℕ) (w : Walk) → 8 ≤ length s → at ≡ little (take 8 (drop 0 s)) → w ≡ walkStep mode (take (length s - 8) (drop 8 s)) at
+    → (32 ∷ 119 ∷ 97 ∷ 108 ∷ 107 ∷ []) ++ walk w ≡ walkAnswer mode s
 unfolding walkAnswer
-walk-answer s at w h p e =
+walk-answer mode s at w h p e =
     let f : take (length s - 8) (drop 8 s) ≡ drop 8 s = take-all (length s - 8) (drop 8 s) (rw (length-drop 8 s) (omega arith)) in
     simp (le-ltb _ _ h, e, f, p)
+
+-- of a dialect: its place is cut, its number is none, or its mode is the walk's
+pub spoken-short : (s : List ℕ) → length s < 9 → [] ≡ spokenAnswer s
+unfolding spokenAnswer
+spoken-short s h =
+    either (ltb 3 (little (take 1 s)))
+    (λ e. rw e)
+    (λ e. rw e (walk-short (dialectOf (little (take 1 s)) .mode) (drop 1 s) (rw (length-drop 1 s) (omega arith))))
+
+pub spoken-high : (s : List ℕ) (n : ℕ) → n ≡ little (take 1 (drop 0 s)) → 3 < n → [] ≡ spokenAnswer s
+unfolding spokenAnswer
+spoken-high s n p h = simp (← p, lt-ltb _ _ h)
+
+spoken-low : (s : List ℕ) (n : ℕ) → n ≡ little (take 1 (drop 0 s)) → n ≤ 3 → walkAnswer (dialectOf n .mode) (drop 1 s) ≡ spokenAnswer s
+unfolding spokenAnswer
+spoken-low s n p h = simp (← p, le-ltb _ _ h)
+
+pub spoken-answer : (s : List ℕ) (n : ℕ) (d : Dialect) → n ≡ little (take 1 (drop 0 s)) → n ≤ 3 → d ≡ dialectOf n
+    → walkAnswer (d .mode) (take (length s - 1) (drop 1 s)) ≡ spokenAnswer s
+spoken-answer s n d p h e =
+    let f : take (length s - 1) (drop 1 s) ≡ drop 1 s = take-all (length s - 1) (drop 1 s) (rw (length-drop 1 s) (omega arith)) in
+    rw (e, f) (spoken-low s n p h)
 
 pub varint-answer : (s : List ℕ) (v : Uvarint) → v ≡ readUvarint s → (32 ∷ 118 ∷ 97 ∷ 114 ∷ 105 ∷ 110 ∷ 116 ∷ []) ++ varint v ≡ varintAnswer s
 unfolding varintAnswer
@@ -82,7 +109,7 @@ pub rest-some : (s : List ℕ) (start : ℕ) → bytesText (take (length s - sta
 rest-some s start = rw (take-all (length s - start) (drop start s) (rw (length-drop start s) (omega arith)))
 
 -- ---- a kind
-pub kind-walk : (kind : ℕ) (s : List ℕ) → kind ≡ 5 → walkAnswer s ≡ answerTo kind s
+pub kind-walk : (kind : ℕ) (s : List ℕ) → kind ≡ 5 → walkAnswer Plain s ≡ answerTo kind s
 unfolding answerTo
 kind-walk kind s e = rw e
 
@@ -102,23 +129,41 @@ pub kind-peer : (kind : ℕ) (s : List ℕ) → kind ≡ 9 → peerAnswer s ≡ 
 unfolding answerTo
 kind-peer kind s e = rw e
 
-pub kind-unknown : (kind : ℕ) (s : List ℕ) → kind ≢ 5 → kind ≢ 6 → kind ≢ 7 → kind ≢ 8 → kind ≢ 9 → [] ≡ answerTo kind s
+pub kind-spoken : (kind : ℕ) (s : List ℕ) → kind ≡ 25 → spokenAnswer s ≡ answerTo kind s
 unfolding answerTo
-kind-unknown kind s a b c d e = simp (ne-eqb _ _ a, ne-eqb _ _ b, ne-eqb _ _ c, ne-eqb _ _ d, ne-eqb _ _ e)
+kind-spoken kind s e = rw e
+
+pub kind-unknown : (kind : ℕ) (s : List ℕ) → kind ≢ 5 → kind ≢ 6 → kind ≢ 7 → kind ≢ 8 → kind ≢ 9 → kind ≢ 25 → [] ≡ answerTo kind s
+unfolding answerTo
+kind-unknown kind s a b c d e f = simp (ne-eqb _ _ a, ne-eqb _ _ b, ne-eqb _ _ c, ne-eqb _ _ d, ne-eqb _ _ e, ne-eqb _ _ f)
 
 -- ---- whether there is an answer
-walk-some : (s : List ℕ) → 8 ≤ length s → 0 < length (walkAnswer s)
+walk-some : (mode : Mode) (s : List ℕ) → 8 ≤ length s → 0 < length (walkAnswer mode s)
 unfolding walkAnswer
-walk-some s h = simp (le-ltb _ _ h) (omega arith)
+walk-some mode s h = simp (le-ltb _ _ h) (omega arith)
 
-walk-there : (s : List ℕ) → leb 8 (length s) ≡ ltb 0 (length (walkAnswer s))
-walk-there s =
+walk-there : (mode : Mode) (s : List ℕ) → leb 8 (length s) ≡ ltb 0 (length (walkAnswer mode s))
+walk-there mode s =
     either (ltb (length s) 8)
-    (λ e. let h = ltb-true (length s) 8 e in lt-leb 8 (length s) h ∙ rw (← walk-short s h))
-    (λ e. let h = ltb-false (length s) 8 e in le-leb 8 (length s) h ∙ sym (lt-ltb 0 (length (walkAnswer s)) (walk-some s h)))
+    (λ e. let h = ltb-true (length s) 8 e in lt-leb 8 (length s) h ∙ rw (← walk-short mode s h))
+    (λ e. let h = ltb-false (length s) 8 e in le-leb 8 (length s) h ∙ sym (lt-ltb 0 (length (walkAnswer mode s)) (walk-some mode s h)))
 
 pub has-walk : (kind : ℕ) (s : List ℕ) → kind ≡ 5 → leb 8 (length s) ≡ ltb 0 (length (answerTo kind s))
-has-walk kind s e = rw (← kind-walk kind s e) (walk-there s)
+has-walk kind s e = rw (← kind-walk kind s e) (walk-there Plain s)
+
+pub spoken-none : (s : List ℕ) → length s < 9 → false ≡ ltb 0 (length (spokenAnswer s))
+spoken-none s h = rw (← spoken-short s h)
+
+pub spoken-there : (s : List ℕ) (n : ℕ) → n ≡ little (take 1 (drop 0 s)) → 9 ≤ length s → leb n 3 ≡ ltb 0 (length (spokenAnswer s))
+spoken-there s n p l =
+    either (ltb 3 n)
+    (λ e. let h = ltb-true 3 n e in lt-leb n 3 h ∙ rw (← spoken-high s n p h))
+    (λ e. let h = ltb-false 3 n e in
+    let some = walk-some (dialectOf n .mode) (drop 1 s) (rw (length-drop 1 s) (omega arith)) in
+    le-leb n 3 h ∙ sym (lt-ltb 0 (length (spokenAnswer s)) (rw (← spoken-low s n p h) some)))
+
+pub has-spoken : (kind : ℕ) (s : List ℕ) {r : Bool} → kind ≡ 25 → r ≡ ltb 0 (length (spokenAnswer s)) → r ≡ ltb 0 (length (answerTo kind s))
+has-spoken kind s e p = rw (← kind-spoken kind s e) p
 
 pub has-varint : (kind : ℕ) (s : List ℕ) → kind ≡ 6 → true ≡ ltb 0 (length (answerTo kind s))
 unfolding varintAnswer
@@ -136,8 +181,8 @@ pub has-peer : (kind : ℕ) (s : List ℕ) → kind ≡ 9 → true ≡ ltb 0 (le
 unfolding peerAnswer
 has-peer kind s e = rw (← kind-peer kind s e) (sym (lt-ltb 0 (length (peerAnswer s)) (omega arith)))
 
-pub has-none : (kind : ℕ) (s : List ℕ) → kind ≢ 5 → kind ≢ 6 → kind ≢ 7 → kind ≢ 8 → kind ≢ 9 → false ≡ ltb 0 (length (answerTo kind s))
-has-none kind s a b c d e = rw (← kind-unknown kind s a b c d e)
+pub has-none : (kind : ℕ) (s : List ℕ) → kind ≢ 5 → kind ≢ 6 → kind ≢ 7 → kind ≢ 8 → kind ≢ 9 → kind ≢ 25 → false ≡ ltb 0 (length (answerTo kind s))
+has-none kind s a b c d e f = rw (← kind-unknown kind s a b c d e f)
 
 -- ---- a line
 closed-some : (n : ℕ) (xs : List ℕ) → 0 < length xs → decimal n ++ (xs ++ (10 ∷ [])) ≡ closed n xs

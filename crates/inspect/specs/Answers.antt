@@ -4,6 +4,9 @@ use mathlib.Core.List.{List, [], _∷_, _++_}
 use mathlib.Core.Bool.{cond}
 use lib.ListN.{length, take, drop}
 use lib.Dec.{ltb, eqb}
+use Rattle.basis.specs.declared.Mode.{Mode}
+use Rattle.basis.specs.declared.Mode.the-variants.{Plain}
+use Rattle.basis.specs.Dialect.{dialectOf}
 use Rattle.basis.specs.Little.{little}
 use Rattle.text.specs.Line.{decimal, number}
 use Rattle.lines.specs.Lines.{refusal}
@@ -30,9 +33,15 @@ varint (Unread why) = refusal (varintTold why)
 varint (Value x n) = number x ++ number n
 
 -- ---- the call and the answer to a content, for each kind
--- ` walk`: a place and then a body; nothing where the place is cut
-unfoldable pub walkAnswer : List ℕ → List ℕ
-walkAnswer s = cond (ltb (length s) 8) [] (32 ∷ 119 ∷ 97 ∷ 108 ∷ 107 ∷ walk (walkStep (drop 8 s) (little (take 8 s))))
+-- ` walk`, in a mode: a place and then a body; nothing where the place is cut
+unfoldable pub walkAnswer : Mode → List ℕ → List ℕ
+walkAnswer mode s =
+    cond (ltb (length s) 8) [] (32 ∷ 119 ∷ 97 ∷ 108 ∷ 107 ∷ walk (walkStep mode (drop 8 s) (little (take 8 s))))
+
+-- the number of a dialect, 0 to 3, in a byte, and then as ` walk`, in its mode; nothing where it is another number
+unfoldable pub spokenAnswer : List ℕ → List ℕ
+spokenAnswer s =
+    cond (ltb 3 (little (take 1 s))) [] (walkAnswer (dialectOf (little (take 1 s)) .mode) (drop 1 s))
 
 -- ` varint`
 unfoldable pub varintAnswer : List ℕ → List ℕ
@@ -45,11 +54,12 @@ utf8Answer s = 32 ∷ 117 ∷ 116 ∷ 102 ∷ 56 ∷ cond (isUtf8 s) (32 ∷ 121
 -- nothing where the kind is unknown
 unfoldable pub answerTo : ℕ → List ℕ → List ℕ
 answerTo kind s =
-    cond (eqb kind 5) (walkAnswer s)
+    cond (eqb kind 5) (walkAnswer Plain s)
     (cond (eqb kind 6) (varintAnswer s)
     (cond (eqb kind 7) (utf8Answer s)
     (cond (eqb kind 8) (keyAnswer s)
-    (cond (eqb kind 9) (peerAnswer s) []))))
+    (cond (eqb kind 9) (peerAnswer s)
+    (cond (eqb kind 25) (spokenAnswer s) [])))))
 
 -- record n's line, with its newline
 unfoldable pub closed : ℕ → List ℕ → List ℕ

@@ -63,11 +63,11 @@ peerText s t = ((32 ∷ 32 ∷ 112 ∷ 101 ∷ 101 ∷ 114 ∷ []) ++ placeText 
 
 -- a topic and a message id: the whole of it. No record is an RPC or a control.
 unfoldable pub recordText : Kind → List ℕ → Slots → List ℕ
-recordText (kind.Rpc d) s t = 32 ∷ 32 ∷ 114 ∷ 112 ∷ 99 ∷ []
+recordText (kind.Rpc e) s t = 32 ∷ 32 ∷ 114 ∷ 112 ∷ 99 ∷ []
 recordText kind.SubOpts s t = subText s t
 recordText kind.RawMessage s t = messageText s t
 recordText kind.Topic s t = (32 ∷ 32 ∷ 116 ∷ 111 ∷ 112 ∷ 105 ∷ 99 ∷ []) ++ bytesText s
-recordText (kind.ControlMessage d) s t = 32 ∷ 32 ∷ 99 ∷ 111 ∷ 110 ∷ 116 ∷ 114 ∷ 111 ∷ 108 ∷ []
+recordText (kind.ControlMessage e) s t = 32 ∷ 32 ∷ 99 ∷ 111 ∷ 110 ∷ 116 ∷ 114 ∷ 111 ∷ 108 ∷ []
 recordText kind.ControlIHave s t = (32 ∷ 32 ∷ 105 ∷ 104 ∷ 97 ∷ 118 ∷ 101 ∷ []) ++ placeText s (t .first)
 recordText kind.ControlIWant s t = 32 ∷ 32 ∷ 105 ∷ 119 ∷ 97 ∷ 110 ∷ 116 ∷ []
 recordText kind.MessageId s t = (32 ∷ 32 ∷ 105 ∷ 100 ∷ []) ++ bytesText s
@@ -90,7 +90,7 @@ rowLine b (found.Record r) = recordLine b r
 
 -- the lines of the records of a body that decode takes
 unfoldable pub linesOf : Dialect → List ℕ → List (List ℕ)
-linesOf d b = map (recordLine b) (rowsOf (kind.Rpc d) 0 b)
+linesOf d b = map (recordLine b) (rowsOf (d .mode) (kind.Rpc (d .edition)) 0 b)
 
 -- ` decode ok`, the number of records and ` control` or ` plain`
 unfoldable pub decodedText : Told → List ℕ

@@ -4,9 +4,12 @@ use mathlib.Core.Path.{_≡_, refl}
 use mathlib.Core.List.{[], _∷_, _++_}
 use mathlib.Core.Option.{none, some}
 use lib.ListN.{replicate}
+use Rattle.basis.specs.declared.Edition.{Edition}
 use Rattle.basis.specs.declared.Edition.the-variants.{V11, V12}
+use Rattle.basis.specs.declared.Mode.{Mode}
+use Rattle.basis.specs.declared.Mode.the-variants.{Groups}
 use Rattle.basis.specs.declared.Dialect.{Dialect}
-use Rattle.basis.specs.Dialect.{spoken}
+use Rattle.basis.specs.Dialect.{editionOf, modeOf, spoken, dialectOf}
 use Rattle.basis.specs.Refusals.{malformed, invalid-utf8}
 use Rattle.basis.specs.Told.{told, done}
 use Rattle.basis.specs.Little.{little}
@@ -15,7 +18,8 @@ use Rattle.peer_id.specs.Uvarint.{readUvarint, readFrom, groupOf}
 use Rattle.peer_id.specs.PeerId.{hashOf, fromBytes}
 use Rattle.key.specs.Decode.{typeOf, onTotal, onData, decodeProtobuf}
 use Rattle.utf8.specs.Utf8.{isUtf8, run}
-use Rattle.protobuf.specs.Field.{readTag, readLen, readVarint, skipFixed, skipField, readValue, readField, walkStep}
+use Rattle.protobuf.specs.Field.{readTag, readLen, readVarint, skipFixed, skipValue, passed, skipFrom, skipGroup}
+use Rattle.protobuf.specs.Field.{skipField, readValue, readField, walkStep}
 use Rattle.protobuf.specs.Walk.{walkFrom, walkAt}
 use Rattle.schema.specs.Schema.{roleOf, rank, ownOf}
 use Rattle.schema.specs.Kinds.{toDepth, overKinds}
@@ -32,7 +36,8 @@ use Rattle.inspect.specs.Made.{writeLine, tosignLine}
 use Rattle.inspect.specs.Records.{bytesText, placeText, countText, flagText, subText, messageText, pruneText}
 use Rattle.inspect.specs.Records.{recordText, recordLine, linesOf, decodedText, decodeLine}
 use Rattle.inspect.specs.Senders.{keyText, peerIdText, keyAnswer, peerAnswer}
-use Rattle.inspect.specs.Answers.{walk, varint, walkAnswer, varintAnswer, utf8Answer, answerTo, closed, lineOf}
+use Rattle.inspect.specs.Answers.{walk, varint, walkAnswer, spokenAnswer, varintAnswer, utf8Answer, answerTo}
+use Rattle.inspect.specs.Answers.{closed, lineOf}
 
 pub rows :
     (lineOf 1 5 (replicate 8 0 ++ (0x0a ∷ 0x05 ∷ 0x08 ∷ [])) ≡ 49 ∷ 32 ∷ 119 ∷ 97 ∷ 108 ∷ 107 ∷ 32 ∷ 114 ∷ 101 ∷ 102
@@ -42,7 +47,7 @@ pub rows :
     × (lineOf 3 7 (0xc0 ∷ 0x80 ∷ []) ≡ 51 ∷ 32 ∷ 117 ∷ 116 ∷ 102 ∷ 56 ∷ 32 ∷ 110 ∷ 111 ∷ 10 ∷ [])
     × (lineOf 4 12 [] ≡ [])
 unfolding lineOf closed answerTo walkAnswer varintAnswer utf8Answer walk varint little width decimal number numbers
-    refused fieldsText spotText readUvarint readFrom groupOf isUtf8 run readTag readLen skipField walkStep
+    refused fieldsText spotText readUvarint readFrom groupOf isUtf8 run readTag readLen skipValue skipField walkStep
 rows = (refl, refl, refl, refl)
 
 -- keys and peer ids: `1 key 0 =` for `08 00 12 00`, `2 key 3 =00` for `08 03 12 01 00`, `3 key refused 35` for a byte
@@ -87,17 +92,49 @@ unfolding decodeLine decodedText linesOf recordLine recordText subText messageTe
 bodies d = (refl, refl, refl, refl)
 
 -- `1a 07 2a 03 0a 01 41 22 00`: `  idontwant`, `  id =41` and `  prune - -` in 1.2, the last alone in 1.1
-pub editions :
-    (linesOf (spoken V12) (0x1a ∷ 0x07 ∷ 0x2a ∷ 0x03 ∷ 0x0a ∷ 0x01 ∷ 0x41 ∷ 0x22 ∷ 0x00 ∷ [])
+pub editions : (mode : Mode) →
+    (linesOf (spoken mode V12) (0x1a ∷ 0x07 ∷ 0x2a ∷ 0x03 ∷ 0x0a ∷ 0x01 ∷ 0x41 ∷ 0x22 ∷ 0x00 ∷ [])
     ≡ (32 ∷ 32 ∷ 105 ∷ 100 ∷ 111 ∷ 110 ∷ 116 ∷ 119 ∷ 97 ∷ 110 ∷ 116 ∷ 10 ∷ [])
     ∷ (32 ∷ 32 ∷ 105 ∷ 100 ∷ 32 ∷ 61 ∷ 52 ∷ 49 ∷ 10 ∷ [])
     ∷ (32 ∷ 32 ∷ 112 ∷ 114 ∷ 117 ∷ 110 ∷ 101 ∷ 32 ∷ 45 ∷ 32 ∷ 45 ∷ 10 ∷ []) ∷ [])
-    × (linesOf (spoken V11) (0x1a ∷ 0x07 ∷ 0x2a ∷ 0x03 ∷ 0x0a ∷ 0x01 ∷ 0x41 ∷ 0x22 ∷ 0x00 ∷ [])
+    × (linesOf (spoken mode V11) (0x1a ∷ 0x07 ∷ 0x2a ∷ 0x03 ∷ 0x0a ∷ 0x01 ∷ 0x41 ∷ 0x22 ∷ 0x00 ∷ [])
     ≡ (32 ∷ 32 ∷ 112 ∷ 114 ∷ 117 ∷ 110 ∷ 101 ∷ 32 ∷ 45 ∷ 32 ∷ 45 ∷ 10 ∷ []) ∷ [])
 unfolding linesOf recordLine recordText pruneText placeText bytesText countText hex readUvarint readFrom groupOf
     readTag readLen readVarint skipFixed skipField readValue readField walkFrom walkAt roleOf rank ownOf toDepth
     overKinds setPlace withField slotsOf ownRows rowsOf
-editions = (refl, refl)
+editions mode = (refl, refl)
+
+-- groups: `1 walk 1 3 1 5` for `0b 10 96 01 0c 1a 00`, and `2 walk refused 5 3 1 at 1` in the first mode; no value and
+-- no place behind 14 to 16; a message with its group, whose `from` is not the message's; no line for a dialect of 4
+pub groups : (e : Edition)
+    → (lineOf 1 25 (2 ∷ replicate 8 0 ++ (0x0b ∷ 0x10 ∷ 0x96 ∷ 0x01 ∷ 0x0c ∷ 0x1a ∷ 0x00 ∷ [])) ≡ 49 ∷ 32 ∷ 119
+    ∷ 97 ∷ 108 ∷ 107 ∷ 32 ∷ 49 ∷ 32 ∷ 51 ∷ 32 ∷ 49 ∷ 32 ∷ 53 ∷ 10 ∷ [])
+    × (lineOf 2 25 (1 ∷ replicate 8 0 ++ (0x0b ∷ 0x10 ∷ 0x96 ∷ 0x01 ∷ 0x0c ∷ 0x1a ∷ 0x00 ∷ [])) ≡ 50 ∷ 32 ∷ 119
+    ∷ 97 ∷ 108 ∷ 107 ∷ 32 ∷ 114 ∷ 101 ∷ 102 ∷ 117 ∷ 115 ∷ 101 ∷ 100 ∷ 32 ∷ 53 ∷ 32 ∷ 51 ∷ 32 ∷ 49 ∷ 32 ∷ 97 ∷ 116 ∷ 32
+    ∷ 49 ∷ 10 ∷ [])
+    × (lineOf 3 25 (3 ∷ replicate 8 0 ++ (0x0b ∷ [])) ≡ 51 ∷ 32 ∷ 119 ∷ 97 ∷ 108 ∷ 107 ∷ 32 ∷ 114 ∷ 101 ∷ 102
+    ∷ 117 ∷ 115 ∷ 101 ∷ 100 ∷ 32 ∷ 49 ∷ 54 ∷ 10 ∷ [])
+    × (lineOf 4 25 (4 ∷ replicate 8 0) ≡ [])
+    × (decodeLine 5 (decodedTold (decodeAnswer (spoken Groups e) (0x0b ∷ 0x13 ∷ 0x14 ∷ 0x0c ∷ []) 10240)) ≡ 53
+    ∷ 32 ∷ 100 ∷ 101 ∷ 99 ∷ 111 ∷ 100 ∷ 101 ∷ 32 ∷ 111 ∷ 107 ∷ 32 ∷ 48 ∷ 32 ∷ 112 ∷ 108 ∷ 97 ∷ 105 ∷ 110 ∷ 10 ∷ [])
+    × (decodeLine 6 (decodedTold (decodeAnswer (spoken Groups e) (0x12 ∷ 0x01 ∷ 0x0c ∷ []) 10240)) ≡ 54 ∷ 32 ∷ 100 ∷ 101
+    ∷ 99 ∷ 111 ∷ 100 ∷ 101 ∷ 32 ∷ 114 ∷ 101 ∷ 102 ∷ 117 ∷ 115 ∷ 101 ∷ 100 ∷ 32 ∷ 49 ∷ 52 ∷ 10 ∷ [])
+    × (decodeLine 7 (decodedTold (decodeAnswer (spoken Groups e) (replicate 33 0x0b) 10240)) ≡ 55 ∷ 32 ∷ 100 ∷ 101 ∷ 99
+    ∷ 111 ∷ 100 ∷ 101 ∷ 32 ∷ 114 ∷ 101 ∷ 102 ∷ 117 ∷ 115 ∷ 101 ∷ 100 ∷ 32 ∷ 49 ∷ 53 ∷ 10 ∷ [])
+    × (decodeLine 8 (decodedTold (decodeAnswer (spoken Groups e) (0x1a ∷ 0x01 ∷ 0x0b ∷ 0x0c ∷ []) 10240)) ≡ 56
+    ∷ 32 ∷ 100 ∷ 101 ∷ 99 ∷ 111 ∷ 100 ∷ 101 ∷ 32 ∷ 114 ∷ 101 ∷ 102 ∷ 117 ∷ 115 ∷ 101 ∷ 100 ∷ 32 ∷ 49 ∷ 54 ∷ 10 ∷ [])
+    × (decodeLine 9 (decodedTold (decodeAnswer (spoken Groups e) (0x0b ∷ 0x0a ∷ 0x05 ∷ 0x08 ∷ []) 10240)) ≡ 57
+    ∷ 32 ∷ 100 ∷ 101 ∷ 99 ∷ 111 ∷ 100 ∷ 101 ∷ 32 ∷ 114 ∷ 101 ∷ 102 ∷ 117 ∷ 115 ∷ 101 ∷ 100 ∷ 32 ∷ 52 ∷ 32 ∷ 51 ∷ 32 ∷ 53
+    ∷ 32 ∷ 49 ∷ 32 ∷ 97 ∷ 116 ∷ 32 ∷ 51 ∷ 10 ∷ [])
+    × (linesOf (spoken Groups e) (0x12 ∷ 0x08 ∷ 0x0a ∷ 0x01 ∷ 0x42 ∷ 0x0b ∷ 0x0a ∷ 0x01 ∷ 0x41 ∷ 0x0c ∷ []) ≡ (32 ∷ 32
+    ∷ 109 ∷ 101 ∷ 115 ∷ 115 ∷ 97 ∷ 103 ∷ 101 ∷ 32 ∷ 61 ∷ 48 ∷ 97 ∷ 48 ∷ 49 ∷ 52 ∷ 50 ∷ 48 ∷ 98 ∷ 48 ∷ 97 ∷ 48 ∷ 49 ∷ 52
+    ∷ 49 ∷ 48 ∷ 99 ∷ 32 ∷ 61 ∷ 52 ∷ 50 ∷ 32 ∷ 45 ∷ 32 ∷ 45 ∷ 32 ∷ 45 ∷ 32 ∷ 45 ∷ 10 ∷ []) ∷ [])
+unfolding lineOf closed answerTo spokenAnswer walkAnswer walk little editionOf modeOf dialectOf decodeLine decodedText
+    linesOf recordLine recordText messageText placeText bytesText hex fieldsText spotText refusalLine width decimal number
+    numbers refused readUvarint readFrom groupOf readTag readLen readVarint skipFixed skipValue passed skipFrom
+    skipGroup skipField readValue readField walkStep walkFrom walkAt roleOf rank ownOf textCount toDepth overKinds
+    counted textSpot spotIn bodyRecords setPlace withField slotsOf hasField ownRows rowsOf hasControl decodeAnswer
+groups e = (refl, refl, refl, refl, refl, refl, refl, refl, refl, refl)
 
 -- lists: a subscription with its number and its topic over `t`, with room for 7 bytes; no row and no bytes; and what is
 -- bad: a mask of 64, a row that lacks a byte, room for 65,601 bytes, 641 rows

@@ -1,8 +1,9 @@
 // Answers records from standard input, a line for each: the record's number from 1, the call, the answer. A record is its content's length
 // (u32), its kind (u16) and its content, little-endian. Kinds: 1 decode (body), 2 encode (body), 3 sign (index u16, body),
 // 4 id (index u16, body), 5 walk (place u64, body), 6 varint (bytes), 7 utf8 (bytes), 8 key (bytes), 9 peer (bytes),
-// 10 write (lists), 11 tosign (index u16, lists); what lists are stands in specs/Lists.antt. 21 to 24 are a dialect u8 (0 is gossipsub 1.1, 1 is
-// 1.2), and then as 1 to 4, which read in 1.1. After the line of kinds 1 and 21 come those of the body's records.
+// 10 write (lists), 11 tosign (index u16, lists); what lists are stands in specs/Lists.antt. 21 to 25 are a dialect u8, 0 to 3 (bit 0: 0 is gossipsub
+// 1.1, 1 is 1.2; bit 1: groups are passed over), and then as 1 to 5, which read in dialect 0. After the line of kinds 1 and 21 come those of the
+// body's records.
 mod lists;
 mod made;
 mod records;
@@ -14,8 +15,9 @@ ghost use lib.ListN.{length};
 ghost use lib.Dec.{ltb};
 ghost use Rattle.text.specs.Line.{Puts};
 ghost use Rattle.lines.specs.Lines.{Wrote};
-ghost use Rattle.inspect.specs.Answers.{walk, varint, walkAnswer, varintAnswer, utf8Answer, answerTo, lineOf};
+ghost use Rattle.inspect.specs.Answers.{walk, varint, walkAnswer, spokenAnswer, varintAnswer, utf8Answer, answerTo, lineOf};
 use basis::Dialect;
+use basis::Mode;
 use basis::dialect_of;
 use compose::sign_fields;
 use compose::told::told_composed;
@@ -47,6 +49,9 @@ use senders::answer_key;
 use senders::answer_peer;
 use text::Header;
 use text::next_header;
+
+// The highest number of a dialect.
+const MAX_DIALECT: u64 = 3;
 
 // One step of the field walk.
 fn put_walk(out: &mut [u8], at: usize, w: Walk) -> usize
@@ -84,19 +89,36 @@ fn put_varint(out: &mut [u8], at: usize, v: Uvarint) -> usize
     }
 }
 
-// Kind 5: the place, and then the body.
-fn answer_walk(content: &[u8], out: &mut [u8], at: usize) -> usize
+// Kind 5, in a mode: the place, and then the body.
+fn answer_walk(mode: Mode, content: &[u8], out: &mut [u8], at: usize) -> usize
     requires { ⌜ at + 131227 ≤ length (now out) ⌝ }
-    ensures { λ r. ⌜ Puts 131227 (walkAnswer (now (content .entry))) (now (out .entry)) at (now (out .exit)) r ⌝ }
+    ensures { λ r. ⌜ Puts 131227 (walkAnswer mode (now (content .entry))) (now (out .entry)) at (now (out .exit)) r ⌝ }
 {
     if content.len() < 8 {
         return at;
     }
     let place = basis::little_at(content, 0, 8);
     let cursor = Cursor { at: place as usize };
-    let w = cursor.step(&content[8..]);
+    let w = cursor.step(mode, &content[8..]);
     let i = put_word(out, at, b" walk");
     put_walk(out, i, w)
+}
+
+// Kind 25: the number of a dialect, of which the mode counts, and then as kind 5.
+fn answer_spoken(content: &[u8], out: &mut [u8], at: usize) -> usize
+    requires { ⌜ at + 131227 ≤ length (now out) ⌝ }
+    ensures { λ r. ⌜ Puts 131227 (spokenAnswer (now (content .entry))) (now (out .entry)) at (now (out .exit)) r ⌝ }
+{
+    if content.len() < 1 {
+        return at;
+    }
+    let number = basis::little_at(content, 0, 1);
+    if MAX_DIALECT < number {
+        return at;
+    }
+    let dialect = dialect_of(number);
+    let mode = dialect.mode;
+    answer_walk(mode, &content[1..], out, at)
 }
 
 // Kind 6.
@@ -127,13 +149,25 @@ fn answer(kind: u64, content: &[u8], out: &mut [u8], at: usize) -> usize
     ensures { λ r. ⌜ Puts 131227 (answerTo kind (now (content .entry))) (now (out .entry)) at (now (out .exit)) r ⌝ }
 {
     match kind {
-        5 => answer_walk(content, out, at),
+        5 => answer_walk(Mode::Plain, content, out, at),
         6 => answer_varint(content, out, at),
         7 => answer_utf8(content, out, at),
         8 => answer_key(content, out, at),
         9 => answer_peer(content, out, at),
+        25 => answer_spoken(content, out, at),
         _ => at,
     }
+}
+
+// Whether content is the number of a dialect, a place and a body.
+fn has_spoken(content: &[u8]) -> bool
+    ensures { λ r. ⌜ r ≡ ltb 0 (length (spokenAnswer (now (content .entry)))) ⌝ }
+{
+    if content.len() < 9 {
+        return false;
+    }
+    let number = basis::little_at(content, 0, 1);
+    number <= MAX_DIALECT
 }
 
 // Whether there is an answer. The record is bad where there is none.
@@ -146,6 +180,7 @@ fn has_answer(kind: u64, content: &[u8]) -> bool
         7 => true,
         8 => true,
         9 => true,
+        25 => has_spoken(content),
         _ => false,
     }
 }
@@ -283,7 +318,7 @@ fn reply_spoken(
         return last(b"bad\n");
     }
     let number = basis::little_at(content, 0, 1);
-    if 1 < number {
+    if MAX_DIALECT < number {
         return last(b"bad\n");
     }
     let dialect = dialect_of(number);
@@ -389,7 +424,7 @@ fn reply_lists(
     reply_tosign(n, index as usize, &content[2..], table, made, out)
 }
 
-// Kinds 5 to 9.
+// Kinds 5 to 9, and 25.
 fn reply_line(n: u64, kind: u64, content: &[u8], out: &mut [u8]) -> bool
     requires { ⌜ length (now content) ≤ 65600 ⌝ }
     requires { ⌜ 787456 ≤ length (now out) ⌝ }

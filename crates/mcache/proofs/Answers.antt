@@ -9,7 +9,8 @@ use lib.Seq.{sets, sets-eq, length-sets, take-at}
 use lib.Dec.{leb, ltb, eqb}
 use borrow.Author.Tests.{eq-eqb, ne-eqb, eqb-true, le-leb, lt-leb, leb-true, lt-ltb, le-ltb}
 use Rattle.basis.specs.declared.Edition.{Edition}
-use Rattle.basis.specs.Dialect.{spoken}
+use Rattle.basis.specs.declared.Mode.{Mode}
+use Rattle.basis.specs.Dialect.{modeOf, spoken}
 use Rattle.basis.specs.declared.Written.the-variants as written
 use Rattle.basis.specs.Cases.{either, clash}
 use Rattle.basis.specs.Writing.{setIn}
@@ -349,19 +350,21 @@ module _ (c : MessageCache) (st : List ℕ) (ed : Edition) (body : List ℕ) (i 
   unfolding planned
   plan-malformed e = rw (← e)
 
-  pub plan-refused : (why : Refusal) → lent.Fine ≡ lentOf c st → checked.Refused why ≡ acceptOf (spoken ed) body → planned c st ed body i ≡ no (put.Refused why)
+  pub plan-refused : {mode : Mode} (why : Refusal) → lent.Fine ≡ lentOf c st → mode ≡ modeOf (c .flags)
+      → checked.Refused why ≡ acceptOf (spoken mode ed) body → planned c st ed body i ≡ no (put.Refused why)
   unfolding planned
-  plan-refused why e f = rw (← e, ← f)
+  plan-refused why e m f = rw (← e, ← m, ← f)
 
-  pub plan-missing : (n : ℕ) → lent.Fine ≡ lentOf c st → checked.Fine ≡ acceptOf (spoken ed) body → at.Count n ≡ messageAt body i → planned c st ed body i ≡ no
-      (put.NoMessage n)
+  pub plan-missing : {mode : Mode} (n : ℕ) → lent.Fine ≡ lentOf c st → mode ≡ modeOf (c .flags)
+      → checked.Fine ≡ acceptOf (spoken mode ed) body → at.Count n ≡ messageAt mode body i → planned c st ed body i ≡ no (put.NoMessage n)
   unfolding planned
-  plan-missing n e f g = rw (← e, ← f, ← g)
+  plan-missing n e m f g = rw (← e, ← m, ← f, ← m, ← g)
 
-  pub plan-at : (a b : ℕ) → lent.Fine ≡ lentOf c st → checked.Fine ≡ acceptOf (spoken ed) body → at.At a b ≡ messageAt body i → planned c st ed body i ≡ planFit c
-      (between body a b) (admissionOf (c .flags) (between body a b) true)
+  pub plan-at : {mode : Mode} (a b : ℕ) → lent.Fine ≡ lentOf c st → mode ≡ modeOf (c .flags)
+      → checked.Fine ≡ acceptOf (spoken mode ed) body → at.At a b ≡ messageAt mode body i
+      → planned c st ed body i ≡ planFit c (between body a b) (admissionOf (c .flags) (between body a b) true)
   unfolding planned
-  plan-at a b e f g = rw (← e, ← f, ← g)
+  plan-at a b e m f g = rw (← e, ← m, ← f, ← m, ← g)
 
 -- ---- a state that was tested
 module _ (c : MessageCache) (st : List ℕ) (h : lent.Fine ≡ lentOf c st) (g : length (c .generation) ≡ maxMessages) (w : length (c .window) ≡

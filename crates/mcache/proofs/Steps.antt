@@ -1,6 +1,6 @@
 -- The steps on the rows, as the code makes them.
 use Prim.Native.Nat.{ℕ, _+_, _-_, _*_, _%_, _^_, _≤_, _<_}
-use mathlib.Core.Path.{_≡_, refl, sym, ap, _∙_}
+use mathlib.Core.Path.{_≡_, refl, sym, ap, subst, _∙_}
 use mathlib.Core.List.{List, _++_, map}
 use mathlib.Core.Bool.{true, false}
 use native.Mathlib.Omega.{arith}
@@ -9,6 +9,7 @@ use lib.ListN.{length, drop, set, replicate}
 use lib.Seq.{sets}
 use lib.Dec.{leb}
 use borrow.Author.Tests.{eq-eqb, ne-eqb, lt-ltb, le-ltb, le-leb, lt-leb}
+use Rattle.basis.specs.Dialect.{modeOf}
 use Rattle.basis.specs.Writing.{setIn}
 use Rattle.basis.specs.Lists.{set-fits}
 use Rattle.rows.specs.declared.Ring.{Ring}
@@ -22,7 +23,7 @@ use Rattle.mcache.specs.declared.MessageCache.{MessageCache}
 use Rattle.mcache.specs.declared.Start.the-variants as start
 use Rattle.mcache.specs.declared.Gossip.the-variants as gossip
 use Rattle.mcache.specs.declared.GossipIds.{GossipIds}
-use Rattle.mcache.specs.State.{Placed, legal, fresh, dropped, appended, passed, aged, older, stale, messageSize, messageIdSize, maxMessages, maxHistory, ringOf, maxTopics, keptPlaces, noted}
+use Rattle.mcache.specs.State.{Placed, Found, legal, fresh, dropped, appended, passed, aged, older, stale, messageSize, messageIdSize, maxMessages, maxHistory, ringOf, maxTopics, keptPlaces, noted}
 use Rattle.mcache.specs.Calls.{startAnswer, startCache, indexIn, entered, enteredStore, shifted, gossipList, gossipArray, rowsLie, tellAnswer, tellCount, tellRows}
 use Rattle.mcache.specs.Unique.{TellsRows}
 use Rattle.mcache.specs.CachedLaws.{stale-in}
@@ -131,9 +132,9 @@ next-lies c st p ok h e =
       omega (arith, ok .few, ok .topics .sizes),
     )
 
-pub appended-is : (m id : List ℕ) (c : MessageCache) (p g n : ℕ) (ids starts sizes : List ℕ) → n ≡ length (keptPlaces m) → starts ≡ sets (c
-    .«topic_start») (p * maxTopics) (startsOf (keptPlaces m))
-    → sizes ≡ sets (c .«topic_len») (p * maxTopics) (sizesOf (keptPlaces m)) → p ≡ placeOf (ringOf c) (c .count) → g ≡ (c .«next_generation» + 1) % 2
+pub appended-is : (m id : List ℕ) (c : MessageCache) (p g n : ℕ) (ids starts sizes : List ℕ) → n ≡ length (keptPlaces (modeOf (c .flags)) m) → starts ≡ sets (c
+    .«topic_start») (p * maxTopics) (startsOf (keptPlaces (modeOf (c .flags)) m))
+    → sizes ≡ sets (c .«topic_len») (p * maxTopics) (sizesOf (keptPlaces (modeOf (c .flags)) m)) → p ≡ placeOf (ringOf c) (c .count) → g ≡ (c .«next_generation» + 1) % 2
     ^ 64 → ids ≡ sets (c .ids) (p * messageIdSize) id
     → _≡_ {A = MessageCache}
     (record {
@@ -192,6 +193,10 @@ module _ (c : MessageCache) (st m id : List ℕ) where
         let n : d .count ≡ c .count - k = ap (λ (x : MessageCache). x .count) ed in
         let x : d .«max_messages» ≡ c .«max_messages» = ap (λ (x : MessageCache). x .«max_messages») ed in
         (rw ed (kept-dropped k c st ok (omega (arith, some))), omega (arith, some))
+
+    pub enter-found : (n : ℕ) (a b : List ℕ) → Found (modeOf (c .flags)) m n a b → Found (modeOf (d .flags)) m n a b
+    unfolding dropped
+    enter-found n a b f = subst (λ (x : MessageCache). Found (modeOf (x .flags)) m n a b) (sym ed) f
 
     pub entered-some : (r : MessageCache) (st2 : List ℕ) → r ≡ appended m id d → st2 ≡ sets st (placeOf (ringOf d) (d .count) * messageSize) m
         → (r ≡ entered m id c) × (st2 ≡ enteredStore c st m)

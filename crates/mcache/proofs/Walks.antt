@@ -11,6 +11,7 @@ use lib.ListN.{take-append-drop}
 use lib.Seq.{drop-cons, take-suc, set-at, getD-at, take-all, length-take-le, sets, length-sets, set-out, getD-take}
 use lib.Dec.{leb, ltb, eqb}
 use borrow.Author.Tests.{le-leb, lt-leb, lt-ltb, le-ltb, eq-eqb, ne-eqb, leb-true, leb-false}
+use Rattle.basis.specs.declared.Mode.{Mode}
 use Rattle.basis.specs.Cases.{either}
 use Rattle.rows.specs.declared.Ring.{Ring}
 use Rattle.rows.specs.Rows.{tab, placeOf, rowsIn}
@@ -254,26 +255,26 @@ map-take f zero l = refl
 map-take f (suc n) [] = refl
 map-take {B = B} f (suc n) (x ∷ l) = ap (λ (r : List B). f x ∷ r) (map-take f n l)
 
-module _ (m : List ℕ) (k n : ℕ) (e : k ≡ length (topicPlaces m)) (f : n ≡ min k maxTopics) where
-  pub kept-length : n ≡ length (keptPlaces m)
+module _ (mode : Mode) (m : List ℕ) (k n : ℕ) (e : k ≡ length (topicPlaces mode m)) (f : n ≡ min k maxTopics) where
+  pub kept-length : n ≡ length (keptPlaces mode m)
   unfolding keptPlaces
-  kept-length = let l = length-take maxTopics (topicPlaces m) in f ∙ omega arith
+  kept-length = let l = length-take maxTopics (topicPlaces mode m) in f ∙ omega arith
 
-  module _ (of : Span → ℕ) (a x : List ℕ) (l : length a ≡ maxTopics) (g : x ≡ sets a 0 (map of (topicPlaces m))) where
-    kept-front : take n x ≡ take maxTopics (map of (topicPlaces m))
+  module _ (of : Span → ℕ) (a x : List ℕ) (l : length a ≡ maxTopics) (g : x ≡ sets a 0 (map of (topicPlaces mode m))) where
+    kept-front : take n x ≡ take maxTopics (map of (topicPlaces mode m))
     kept-front =
-        let w = length-map (topicPlaces m) of in
-        rw g (front (map of (topicPlaces m)) a n maxTopics l (omega arith))
+        let w = length-map (topicPlaces mode m) of in
+        rw g (front (map of (topicPlaces mode m)) a n maxTopics l (omega arith))
 
-    pub kept-values : take n x ≡ map of (keptPlaces m)
+    pub kept-values : take n x ≡ map of (keptPlaces mode m)
     unfolding keptPlaces
-    kept-values = kept-front ∙ sym (map-take of maxTopics (topicPlaces m))
+    kept-values = kept-front ∙ sym (map-take of maxTopics (topicPlaces mode m))
 
-    pub kept-below : (b : ℕ) → ((i : ℕ) → getD (map of (topicPlaces m)) i 0 ≤ b) → (i : ℕ) → i < n → getD x i 0 ≤ b
+    pub kept-below : (b : ℕ) → ((i : ℕ) → getD (map of (topicPlaces mode m)) i 0 ≤ b) → (i : ℕ) → i < n → getD x i 0 ≤ b
     kept-below b h i u =
-        let v : getD x i 0 ≡ getD (map of (topicPlaces m)) i 0 =
+        let v : getD x i 0 ≡ getD (map of (topicPlaces mode m)) i 0 =
         sym (getD-take n x i 0 u) ∙ ap (λ (r : List ℕ). getD r i 0) kept-front
-        ∙ getD-take maxTopics (map of (topicPlaces m)) i 0 (omega arith) in
+        ∙ getD-take maxTopics (map of (topicPlaces mode m)) i 0 (omega arith) in
         rw v (h i)
 
 -- ---- whether a row gives its id

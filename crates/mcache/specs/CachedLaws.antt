@@ -10,6 +10,7 @@ use lib.ListN.{length, drop, getD, set, drop-of-length-le}
 use lib.Seq.{sets, getD-set-same, getD-set-other}
 use lib.Dec.{leb, ltb, eqb}
 use borrow.Author.Tests.{leb-true, ltb-true, lt-ltb, eqb-true, eqb-false, eq-eqb, ne-eqb}
+use Rattle.basis.specs.Dialect.{modeOf}
 use Rattle.basis.specs.Cases.{either, both}
 use Rattle.rows.specs.declared.Ring.{Ring}
 use Rattle.rows.specs.Rows.{tab, placeOf, rowsIn, newest, without, oneMore}
@@ -232,13 +233,14 @@ module _ (c : MessageCache) (st m id : List ℕ) (t : Tests c st) (z : Sized c) 
       n (omega (arith, t .room)))
 
   pub kept-topics : (i : ℕ) → i < c .count - leaving c
-      → topicsAt (noted m (spot c) (tableOf c)) (stays c i) ≡ topicsAt (tableOf c) (stays c i)
+      → topicsAt (noted (modeOf (c .flags)) m (spot c) (tableOf c)) (stays c i) ≡ topicsAt (tableOf c) (stays c i)
   kept-topics i h =
-      noted-other m (spot c) (tableOf c) (stays c i) (spot-free c (t .starts) (t .within) some i h)
+      noted-other (modeOf (c .flags)) m (spot c) (tableOf c) (stays c i) (spot-free c (t .starts) (t .within) some i h)
       (rw (stays-is c (t .starts) (t .within) some i h) (row-few c st t (leaving c + i) (omega arith)))
 
-  pub new-topics : topicsAt (noted m (spot c) (tableOf c)) (spot c) ≡ keptPlaces m
-  new-topics = noted-here m (spot c) (tableOf c) (z .topics) spot-small
+  pub new-topics : topicsAt (noted (modeOf (c .flags)) m (spot c) (tableOf c)) (spot c)
+      ≡ keptPlaces (modeOf (c .flags)) m
+  new-topics = noted-here (modeOf (c .flags)) m (spot c) (tableOf c) (z .topics) spot-small
 
   pub new-number : (l : List ℕ) (x : ℕ) → length l ≡ maxMessages → getD (set l (spot c) x) (spot c) 0 ≡ x
   new-number l x e = getD-set-same l (spot c) x 0 (omega (arith, spot-small))
@@ -246,7 +248,7 @@ module _ (c : MessageCache) (st m id : List ℕ) (t : Tests c st) (z : Sized c) 
 -- the cache with a message more, where some is kept
 unfoldable pub grown : List ℕ → List ℕ → MessageCache → MessageCache
 grown m id c =
-    let t = noted m (spot c) (tableOf c) in
+    let t = noted (modeOf (c .flags)) m (spot c) (tableOf c) in
     record {
       «history_len» = c .«history_len»;
       «max_messages» = c .«max_messages»;

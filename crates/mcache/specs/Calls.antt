@@ -1,6 +1,6 @@
 -- What each call on the message cache answers and leaves. Refusals come in the order of the scope's table: 40 at the
--- start; 41, 42; then for `put` 10, 1 to 7, 11, 20, 21, 22, 34, 23 to 26, 35, 36, 28, 29, 30, and for `gossip_ids` 29. A refused call
--- leaves the cache and the store as they were.
+-- start; 41, 42; then for `put` 10, 1 to 7 and 14 to 16, 11, 20, 21, 22, 34, 23 to 26, 35, 36, 28, 29, 30, and for
+-- `gossip_ids` 29. A refused call leaves the cache and the store as they were.
 use Prim.Native.Nat.{ℕ, _+_, _-_, _*_}
 use mathlib.Core.List.{List, [], _∷_, _++_}
 use mathlib.Core.Bool.{Bool, true, cond, _&&_}
@@ -190,7 +190,7 @@ abbrev pub planAt : MessageCache → List ℕ → MessageAt → Plan
 planAt c body (at.Count n) = no (put.NoMessage n)
 planAt c body (at.At a e) = planFit c (between body a e) (admissionOf (c .flags) (between body a e) true)
 
--- 10, 1 to 7, 11
+-- 10, 1 to 7 and 14 to 16, 11
 abbrev pub planBody : MessageCache → List ℕ → ℕ → Checked → Plan
 planBody c body i (checked.Refused why) = no (put.Refused why)
 planBody c body i checked.Fine = planAt c body (messageAt (modeOf (c .flags)) body i)
@@ -201,6 +201,7 @@ planLent lent.Fine r = r
 planLent lent.BadStore r = no put.BadStore
 planLent lent.Malformed r = no put.Malformed
 
+-- the body is read in the edition of the call and in the mode of the cache
 unfoldable pub planned : MessageCache → List ℕ → Edition → List ℕ → ℕ → Plan
 planned c st e body i = planLent (lentOf c st) (planBody c body i (acceptOf (spoken (modeOf (c .flags)) e) body))
 

@@ -10,7 +10,7 @@ use lib.ListN.{length}
 use lib.Dec.{leb, ltb, eqb}
 use borrow.Author.Tests.{leb-true, leb-false, ltb-true, ltb-false, eqb-true, eq-eqb}
 use Rattle.basis.specs.declared.Edition.{Edition}
-use Rattle.basis.specs.Dialect.{spoken}
+use Rattle.basis.specs.Dialect.{modeOf, spoken}
 use Rattle.basis.specs.Cases.{either, clash}
 use Rattle.basis.specs.Refusals.{bad-setting, bad-store, malformed, topic-too-long}
 use Rattle.basis.specs.Told.{told}
@@ -184,7 +184,7 @@ module _ (c : MessageCache) where
 
   body-low : (body : List ℕ) (i : ℕ) (r : Checked) → putNumber (answered (planBody c body i r)) < bad-setting
   body-low body i (checked.Refused why) = omega (arith, wire-range (why .why) .1)
-  body-low body i checked.Fine = at-low body (messageAt body i)
+  body-low body i checked.Fine = at-low body (messageAt (modeOf (c .flags)) body i)
 
 module _ (c : MessageCache) (st : List ℕ) (y : Typed c) where
   by-put : (l : Lent) (p : Plan) → putNumber (answered p) < bad-setting → lentOf c st ≡ l
@@ -196,8 +196,8 @@ module _ (c : MessageCache) (st : List ℕ) (y : Typed c) where
   plan-exactly : (ed : Edition) (body : List ℕ) (i : ℕ) → Exactly c st (putNumber (answered (planned c st ed body i)))
   unfolding planned
   plan-exactly ed body i =
-      by-put (lentOf c st) (planBody c body i (acceptOf (spoken ed) body))
-      (body-low c body i (acceptOf (spoken ed) body)) refl
+      by-put (lentOf c st) (planBody c body i (acceptOf (spoken (modeOf (c .flags)) ed) body))
+      (body-low c body i (acceptOf (spoken (modeOf (c .flags)) ed) body)) refl
 
   pub put-lent-exactly : (ed : Edition) (body : List ℕ) (i : ℕ) (r : PutDone) (left : List ℕ)
       → Puts c st ed body i r left → Exactly c st (putNumber (r .answer))

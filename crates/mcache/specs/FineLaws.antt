@@ -9,7 +9,7 @@ use lib.Seq.{sets, length-sets, getD-set-same, getD-set-other, set-out}
 use lib.Dec.{leb, ltb, eqb}
 use borrow.Author.Tests.{le-leb, leb-true, ltb-true, ltb-false, eqb-true, eqb-false, eq-eqb}
 use Rattle.basis.specs.declared.Edition.{Edition}
-use Rattle.basis.specs.Dialect.{spoken}
+use Rattle.basis.specs.Dialect.{modeOf, spoken}
 use Rattle.basis.specs.Cases.{either, clash, both}
 use Rattle.basis.specs.Lists.{zeros-below}
 use Rattle.rows.specs.declared.Ring.{Ring}
@@ -188,7 +188,8 @@ ids-less : (k : ℕ) (ring : Ring) (lens ids : List ℕ) → ring .start ≤ rin
 unfolding idsIn
 ids-less k ring lens ids a b h = ring-drop (idAt messageIdSize lens ids) ring k a b h
 
-gives-less : (flags k : ℕ) (ring : Ring) (lens ilens ids : List ℕ) (table : Table) (st : List ℕ) → ring .start ≤ ring .cap → ring .count ≤ ring .cap
+gives-less : (flags k : ℕ) (ring : Ring) (lens ilens ids : List ℕ) (table : Table) (st : List ℕ)
+    → ring .start ≤ ring .cap → ring .count ≤ ring .cap
     → k ≤ ring .count → givesIn flags ring lens ilens ids table st ≡ true
     → givesIn flags (without k ring) lens ilens ids table st ≡ true
 unfolding givesIn
@@ -214,7 +215,8 @@ shifted-tests c st t z =
           (runs-drop (c .«next_generation») k (inUse (ringOf c) (c .generation)) (t .runs));
       id-short = rw (numbers-less k (ringOf c) (c .«id_len») (t .starts) (t .within) h)
           (upto-drop messageIdSize k (inUse (ringOf c) (c .«id_len»)) (t .id-short));
-      gives = gives-less (c .flags) k (ringOf c) (c .len) (c .«id_len») (c .ids) (tableOf c) st (t .starts) (t .within) h (t .gives);
+      gives = gives-less (c .flags) k (ringOf c) (c .len) (c .«id_len») (c .ids) (tableOf c) st (t .starts)
+          (t .within) h (t .gives);
       once = rw (ids-less k (ringOf c) (c .«id_len») (c .ids) (t .starts) (t .within) h)
           (distinct-drop k (idsIn messageIdSize (ringOf c) (c .«id_len») (c .ids)) (t .once));
     }
@@ -236,7 +238,8 @@ pub record Enters (c : MessageCache) (m id : List ℕ) : Type 0 where
   pub own : givesId (c .flags) m id ≡ true
   pub fresh : ltb (indexIn c id) (c .count) ≡ false
 
-of-fit : (c : MessageCache) (p m id : List ℕ) (n : ℕ) (r : Admission) → counted kind.RawMessage p ≡ count.Records n
+of-fit : (c : MessageCache) (p m id : List ℕ) (n : ℕ) (r : Admission)
+    → counted (modeOf (c .flags)) kind.RawMessage p ≡ count.Records n
     → admissionOf (c .flags) p true ≡ r → planFit c p r ≡ keep m id → Enters c m id
 of-fit c p m id n (admission.Unfit why) k e h = clash (cc)
 of-fit c p m id n (admission.Fit x y z w) k e h =
@@ -254,22 +257,24 @@ of-fit c p m id n (admission.Fit x y z w) k e h =
     })
 
 of-at : (c : MessageCache) (ed : Edition) (body m id : List ℕ) (i : ℕ) (r : MessageAt)
-    → acceptOf (spoken ed) body ≡ checked.Fine
-    → messageAt body i ≡ r → planAt c body r ≡ keep m id → Enters c m id
+    → acceptOf (spoken (modeOf (c .flags)) ed) body ≡ checked.Fine
+    → messageAt (modeOf (c .flags)) body i ≡ r → planAt c body r ≡ keep m id → Enters c m id
 of-at c ed body m id i (at.Count n) a e h = clash (cc)
 of-at c ed body m id i (at.At x y) a e h =
-    let q = message-read (spoken ed) body i x y a e in
+    let q = message-read (spoken (modeOf (c .flags)) ed) body i x y a e in
     of-fit c (between body x y) m id (q .0) (admissionOf (c .flags) (between body x y) true) (q .1) refl h
 
-of-body : (c : MessageCache) (ed : Edition) (body m id : List ℕ) (i : ℕ) (r : Checked) → acceptOf (spoken ed) body ≡ r
+of-body : (c : MessageCache) (ed : Edition) (body m id : List ℕ) (i : ℕ) (r : Checked)
+    → acceptOf (spoken (modeOf (c .flags)) ed) body ≡ r
     → planBody c body i r ≡ keep m id → Enters c m id
 of-body c ed body m id i (checked.Refused why) a h = clash (cc)
-of-body c ed body m id i checked.Fine a h = of-at c ed body m id i (messageAt body i) a refl h
+of-body c ed body m id i checked.Fine a h = of-at c ed body m id i (messageAt (modeOf (c .flags)) body i) a refl h
 
 pub planned-keeps : (c : MessageCache) (st : List ℕ) (ed : Edition) (body m id : List ℕ) (i : ℕ)
     → lentOf c st ≡ lent.Fine → planned c st ed body i ≡ keep m id → Enters c m id
 unfolding planned
-planned-keeps c st ed body m id i f h = of-body c ed body m id i (acceptOf (spoken ed) body) refl (rw f at h)
+planned-keeps c st ed body m id i f h = of-body c ed body m id i (acceptOf (spoken (modeOf (c .flags)) ed) body) refl
+    (rw f at h)
 
 not-held : (c : MessageCache) (m id : List ℕ) → Enters c m id
     → among id (idsIn messageIdSize (ringOf c) (c .«id_len») (c .ids)) ≡ false
@@ -296,7 +301,7 @@ module _ (c : MessageCache) (st m id : List ℕ) (t : Tests c st) (z : Sized c) 
 
   gives-more : givesIn (c .flags) (oneMore (rest c)) (set (c .len) (spot c) (length m))
       (set (c .«id_len») (spot c) (length id)) (sets (c .ids) (spot c * messageIdSize) id)
-      (noted m (spot c) (tableOf c)) (sets st (spot c * messageSize) m) ≡ true
+      (noted (modeOf (c .flags)) m (spot c) (tableOf c)) (sets st (spot c * messageSize) m) ≡ true
   unfolding givesIn givesAt newest
   gives-more =
       let old = givesAt (c .flags) (c .len) (c .«id_len») (c .ids) (tableOf c) st in
@@ -304,7 +309,8 @@ module _ (c : MessageCache) (st m id : List ℕ) (t : Tests c st) (z : Sized c) 
       rw
       (ring-entered c (t .starts) (t .within) some old
       (givesAt (c .flags) (set (c .len) (spot c) (length m)) (set (c .«id_len») (spot c) (length id))
-      (sets (c .ids) (spot c * messageIdSize) id) (noted m (spot c) (tableOf c)) (sets st (spot c * messageSize) m)) true
+      (sets (c .ids) (spot c * messageIdSize) id) (noted (modeOf (c .flags)) m (spot c) (tableOf c))
+      (sets st (spot c * messageSize) m)) true
       (λ i h.
       rw (
         kept-number c st m id t z (k .id-small) (k .small) some (c .len) (length m) i h,
@@ -318,7 +324,7 @@ module _ (c : MessageCache) (st m id : List ℕ) (t : Tests c st) (z : Sized c) 
         new-id c st m id t z (k .id-small) (k .small) some,
         new-topics c st m id t z (k .id-small) (k .small) some,
         le-leb (length m) messageSize (k .small),
-      ) (kept-own (c .flags) m id (keptPlaces m) (k .own) (kept-all (c .flags) m id (k .own)))))
+      ) (kept-own (c .flags) m id (keptPlaces (modeOf (c .flags)) m) (k .own) (kept-all (c .flags) m id (k .own)))))
       (true-drop (length l - c .«max_messages») l (true-snoc (rowsIn old (ringOf c)) (t .gives)))
 
   grown-tests : Tests (grown m id c) (sets st (spot c * messageSize) m)
@@ -414,7 +420,7 @@ grown-sized m id c z =
       lengths = length-set (c .len) (spot c) (length m) ∙ z .lengths;
       id-lengths = length-set (c .«id_len») (spot c) (length id) ∙ z .id-lengths;
       id-room = length-sets (c .ids) (spot c * messageIdSize) id ∙ z .id-room;
-      topics = noted-roomy m (spot c) (tableOf c) (z .topics);
+      topics = noted-roomy (modeOf (c .flags)) m (spot c) (tableOf c) (z .topics);
     }
 
 passed-sized : (c : MessageCache) → Sized c → Sized (passed c)
@@ -488,7 +494,12 @@ shifted-typed c y = record { sized = shifted-sized c (y .sized); next-small = y 
 pub fresh-typed : (next history max flags : ℕ) → next < 2 ^ 64 → Typed (freshAt next history max flags)
 unfolding freshAt
 fresh-typed next history max flags h =
-    record { sized = fresh-sized next history max flags; next-small = h; small = λ p. zeros-below maxMessages (2 ^ 64) p (omega arith) }
+    record {
+      sized = fresh-sized next history max flags;
+      next-small = h;
+      small = λ p. zeros-below maxMessages (2 ^ 64) p
+          (omega arith);
+    }
 
 entered-typed : (m id : List ℕ) (c : MessageCache) → Typed c → Typed (entered m id c)
 entered-typed m id c y =

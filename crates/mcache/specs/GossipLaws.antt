@@ -11,6 +11,8 @@ use lib.ListN.{length, take, drop, getD, replicate, length-map, List·getD-appen
 use lib.Seq.{take-append-seam}
 use lib.Dec.{ltb}
 use borrow.Author.Tests.{ltb-true, ltb-false, lt-ltb, le-ltb}
+use Rattle.basis.specs.declared.Mode.{Mode}
+use Rattle.basis.specs.Dialect.{modeOf}
 use Rattle.basis.specs.declared.Written.{Written}
 use Rattle.basis.specs.Cases.{either, clash, both}
 use Rattle.basis.specs.Writing.{answer, written}
@@ -191,25 +193,26 @@ gather-enter t id qs (p ∷ ps) d a =
 -- by the topics that the message itself has
 abbrev carried : MessageCache → List ℕ → List ℕ → ℕ → ℕ → Bool
 carried c st topic windows p =
-    ltb (getD (c .window) p 0) windows && among topic (topicsOf (messageIn (c .len) st p))
+    ltb (getD (c .window) p 0) windows && among topic (topicsOf (modeOf (c .flags)) (messageIn (c .len) st p))
 
 carrying-rows : (c : MessageCache) (st topic : List ℕ) (windows : ℕ) (ps : List ℕ)
-    → idsOf (carrying topic windows (map (cachedAt c st) ps)) ≡ map (idAt messageIdSize (c .«id_len») (c .ids))
+    → idsOf (carrying (modeOf (c .flags)) topic windows (map (cachedAt c st) ps))
+    ≡ map (idAt messageIdSize (c .«id_len») (c .ids))
     (chosen (carried c st topic windows) ps)
 unfolding carrying chosen cachedAt
 carrying-rows c st topic windows [] = refl
 carrying-rows c st topic windows (p ∷ ps) =
     let r = carrying-rows c st topic windows ps in
-    either (ltb (getD (c .window) p 0) windows && among topic (topicsOf (messageIn (c .len) st p)))
+    either (ltb (getD (c .window) p 0) windows && among topic (topicsOf (modeOf (c .flags)) (messageIn (c .len) st p)))
     (λ t. rw t (ap (λ (l : List (List ℕ)). idAt messageIdSize (c .«id_len») (c .ids) p ∷ l) r))
     (λ t. rw t r)
 
 -- in a tested state the kept places say the same
 pub topic-kept : (c : MessageCache) (st topic : List ℕ) (i : ℕ) → Tests c st → i < c .count
     → hasTopic (c .len) (tableOf c) st topic (placeOf (ringOf c) i)
-    ≡ among topic (topicsOf (messageIn (c .len) st (placeOf (ringOf c) i)))
+    ≡ among topic (topicsOf (modeOf (c .flags)) (messageIn (c .len) st (placeOf (ringOf c) i)))
 topic-kept c st topic i t h =
-    rw (row-topics c st t i h, cut-topics (messageIn (c .len) st (placeOf (ringOf c) i)))
+    rw (row-topics c st t i h, cut-topics (modeOf (c .flags)) (messageIn (c .len) st (placeOf (ringOf c) i)))
 
 told-kept : (c : MessageCache) (st topic : List ℕ) (windows i : ℕ) → Tests c st → i < c .count
     → told (c .window) (c .len) (tableOf c) st windows topic (placeOf (ringOf c) i)
@@ -234,7 +237,8 @@ told-rows c st topic windows t =
     rw (getD-tab g (c .count) i 0 l) (told-kept c st topic windows i t l))
 
 pub gossip-ids : (c : MessageCache) (st topic : List ℕ) (windows : ℕ) → lentOf c st ≡ lent.Fine
-    → map (idAt messageIdSize (c .«id_len») (c .ids)) (gossipList c st topic windows) ≡ gossipIds topic windows
+    → map (idAt messageIdSize (c .«id_len») (c .ids)) (gossipList c st topic windows)
+    ≡ gossipIds (modeOf (c .flags)) topic windows
     (cachedIn c st)
 unfolding gossipList gossipIds cachedIn Apart among idsIn
 gossip-ids c st topic windows f =
@@ -247,7 +251,7 @@ gossip-ids c st topic windows f =
     ∙ enter-order (map id (chosen t ps))
     ∙ ap (λ (qs : List ℕ). inOrder (map id qs)) (told-rows c st topic windows (fine-tests c st f))
     ∙ ap inOrder (sym (carrying-rows c st topic windows ps))
-    ∙ ap (λ (ms : List Cached). inOrder (idsOf (carrying topic windows ms)))
+    ∙ ap (λ (ms : List Cached). inOrder (idsOf (carrying (modeOf (c .flags)) topic windows ms)))
     (map-ring (cachedAt c st) (λ (p : ℕ). p) (ringOf c))
 
 -- ---- what the call answers: of the rows that it gives, the first `count` hold those ids
@@ -263,7 +267,8 @@ module _ (c : MessageCache) (st topic : List ℕ) (fine : lentOf c st ≡ lent.F
 
   pub gossip-told : (windows : ℕ) → length topic ≤ 1024
       → map (idAt messageIdSize (c .«id_len») (c .ids))
-      (take (gossipCount c st topic windows) (gossipRows c st topic windows)) ≡ gossipIds topic windows
+      (take (gossipCount c st topic windows) (gossipRows c st topic windows))
+      ≡ gossipIds (modeOf (c .flags)) topic windows
       (cachedIn c st)
   unfolding gossipCount gossipRows gossipArray
   gossip-told windows h =
@@ -291,7 +296,7 @@ module _ (c : MessageCache) (st topic : List ℕ) (fine : lentOf c st ≡ lent.F
 
     place-id : (i : ℕ) → i < gossipCount c st topic windows
         → idAt messageIdSize (c .«id_len») (c .ids) (getD (gossipRows c st topic windows) i 0)
-        ≡ getD (gossipIds topic windows (cachedIn c st)) i []
+        ≡ getD (gossipIds (modeOf (c .flags)) topic windows (cachedIn c st)) i []
     place-id i k =
         let id = idAt messageIdSize (c .«id_len») (c .ids) in
         let l = gossipList c st topic windows in
@@ -305,7 +310,8 @@ module _ (c : MessageCache) (st topic : List ℕ) (fine : lentOf c st ≡ lent.F
 
     module _ (r : GossipIds) (g : Gossips c st topic windows r) where
       -- as many as there are ids
-      pub gossip-counts : length topic ≤ 1024 → r .count ≡ length (gossipIds topic windows (cachedIn c st))
+      pub gossip-counts : length topic ≤ 1024 → r .count
+          ≡ length (gossipIds (modeOf (c .flags)) topic windows (cachedIn c st))
       gossip-counts h =
           let l = gossipList c st topic windows in
           g .count ∙ list-counts h ∙ sym (length-map l (idAt messageIdSize (c .«id_len») (c .ids)))
@@ -314,8 +320,8 @@ module _ (c : MessageCache) (st topic : List ℕ) (fine : lentOf c st ≡ lent.F
       -- `id_at` of the i-th place that `gossip_ids` answers writes the i-th id
       pub gossip-id-at : (i : ℕ) → i < r .count → (out : List ℕ) (w : Written) (left : List ℕ)
           → WritesId c (getD (r .rows) i 0) out w left
-          → (w ≡ answer (getD (gossipIds topic windows (cachedIn c st)) i []) out)
-          × (left ≡ written (getD (gossipIds topic windows (cachedIn c st)) i []) out)
+          → (w ≡ answer (getD (gossipIds (modeOf (c .flags)) topic windows (cachedIn c st)) i []) out)
+          × (left ≡ written (getD (gossipIds (modeOf (c .flags)) topic windows (cachedIn c st)) i []) out)
       gossip-id-at i k out w left d =
           let e = ap (λ (l : List ℕ). idAt messageIdSize (c .«id_len») (c .ids) (getD l i 0)) (g .rows)
           ∙ place-id i (rw (g .count) at k) in (
@@ -381,32 +387,33 @@ rises-each (i ∷ l) zero (suc b) r h k = from-each i l b r (omega arith)
 rises-each (i ∷ l) (suc a) (suc b) r h k = rises-each l a b (from-rises i l r) (omega arith) (omega arith)
 
 -- of two ids that are told of, the first comes first in byte order
-pub gossip-sorted : (topic : List ℕ) (windows : ℕ) (ms : List Cached) (a b : ℕ) → a < b
-    → b < length (gossipIds topic windows ms)
-    → precedesBytes (getD (gossipIds topic windows ms) a []) (getD (gossipIds topic windows ms) b []) ≡ true
+pub gossip-sorted : (mode : Mode) (topic : List ℕ) (windows : ℕ) (ms : List Cached) (a b : ℕ) → a < b
+    → b < length (gossipIds mode topic windows ms)
+    → precedesBytes (getD (gossipIds mode topic windows ms) a []) (getD (gossipIds mode topic windows ms) b []) ≡ true
 unfolding gossipIds
-gossip-sorted topic windows ms a b h k =
-    rises-each (inOrder (idsOf (carrying topic windows ms))) a b (rises-order (idsOf (carrying topic windows ms))) h k
+gossip-sorted mode topic windows ms a b h k =
+    rises-each (inOrder (idsOf (carrying mode topic windows ms))) a b
+    (rises-order (idsOf (carrying mode topic windows ms))) h k
 
 -- ---- exactly those
 -- some message of ms has the id, stands in one of the newest windows and carries the topic
-pub record Tells (i topic : List ℕ) (windows : ℕ) (ms : List Cached) : Type 0 where
+pub record Tells (mode : Mode) (i topic : List ℕ) (windows : ℕ) (ms : List Cached) : Type 0 where
   pub entry : Cached
   pub cached : List·Memᴰ entry ms
   pub named : entry .id ≡ i
   pub recent : entry .window < windows
-  pub carries : List·Memᴰ topic (topics entry)
+  pub carries : List·Memᴰ topic (topics mode entry)
 
 pub among-order : (x : List ℕ) (is : List (List ℕ)) → among x (inOrder is) ≡ among x is
 unfolding inOrder among
 among-order x [] = refl
 among-order x (i ∷ is) = among-enter x i (inOrder is) ∙ ap (λ (b : Bool). sameBytes i x || b) (among-order x is)
 
-abbrev picks : List ℕ → ℕ → Cached → Bool
-picks topic windows m = ltb (m .window) windows && among topic (topics m)
+abbrev picks : Mode → List ℕ → ℕ → Cached → Bool
+picks mode topic windows m = ltb (m .window) windows && among topic (topics mode m)
 
-module _ (i topic : List ℕ) (windows : ℕ) where
-  tells-more : (m : Cached) (ms : List Cached) → Tells i topic windows ms → Tells i topic windows (m ∷ ms)
+module _ (mode : Mode) (i topic : List ℕ) (windows : ℕ) where
+  tells-more : (m : Cached) (ms : List Cached) → Tells mode i topic windows ms → Tells mode i topic windows (m ∷ ms)
   tells-more m ms t =
       record {
         entry = t .entry;
@@ -416,54 +423,57 @@ module _ (i topic : List ℕ) (windows : ℕ) where
         carries = t .carries;
       }
 
-  carrying-tells : (ms : List Cached) → among i (idsOf (carrying topic windows ms)) ≡ true → Tells i topic windows ms
+  carrying-tells : (ms : List Cached) → among i (idsOf (carrying mode topic windows ms)) ≡ true
+      → Tells mode i topic windows ms
   unfolding carrying among
   carrying-tells [] h = clash (cc)
   carrying-tells (m ∷ ms) h =
-      either (picks topic windows m)
+      either (picks mode topic windows m)
       (λ t.
-      let b = both (ltb (m .window) windows) (among topic (topics m)) t in
-      let g : (sameBytes (m .id) i || among i (idsOf (carrying topic windows ms))) ≡ true = rw t at h in
+      let b = both (ltb (m .window) windows) (among topic (topics mode m)) t in
+      let g : (sameBytes (m .id) i || among i (idsOf (carrying mode topic windows ms))) ≡ true = rw t at h in
       either (sameBytes (m .id) i)
       (λ u. record {
         entry = m;
         cached = List·Memᴰ·head refl;
         named = same-equal (m .id) i u;
         recent = ltb-true (m .window) windows (b .0);
-        carries = among-in topic (topics m) (b .1);
+        carries = among-in topic (topics mode m) (b .1);
       })
       (λ u. tells-more m ms (carrying-tells ms (simp u at g))))
       (λ t. tells-more m ms (carrying-tells ms (rw t at h)))
 
-  tells-carrying : (ms : List Cached) (m : Cached) → List·Memᴰ m ms → m .id ≡ i → picks topic windows m ≡ true
-      → among i (idsOf (carrying topic windows ms)) ≡ true
+  tells-carrying : (ms : List Cached) (m : Cached) → List·Memᴰ m ms → m .id ≡ i → picks mode topic windows m ≡ true
+      → among i (idsOf (carrying mode topic windows ms)) ≡ true
   unfolding carrying among
   tells-carrying [] m d e t = absurd (List·Memᴰ·not-nil d)
   tells-carrying (n ∷ ms) m d e t =
       ⊎-elim
-      (λ (g : m ≡ n). let u : picks topic windows n ≡ true = rw g at t in let v : n .id ≡ i = rw g at e in
+      (λ (g : m ≡ n). let u : picks mode topic windows n ≡ true = rw g at t in let v : n .id ≡ i = rw g at e in
       rw (u, v, same-self i))
       (λ (r : List·Memᴰ m ms).
       let k = tells-carrying ms m r e t in
-      either (picks topic windows n) (λ u. rw (u, k) (or-true (sameBytes (n .id) i))) (λ u. rw u k))
+      either (picks mode topic windows n) (λ u. rw (u, k) (or-true (sameBytes (n .id) i))) (λ u. rw u k))
       (List·Memᴰ·cases-cons d)
 
-  pub gossip-exactly : (ms : List Cached) → (among i (gossipIds topic windows ms) ≡ true) ↔ Tells i topic windows ms
+  pub gossip-exactly : (ms : List Cached) → (among i (gossipIds mode topic windows ms)
+      ≡ true) ↔ Tells mode i topic windows ms
   unfolding gossipIds
   gossip-exactly ms = (
-    λ h. carrying-tells ms (sym (among-order i (idsOf (carrying topic windows ms))) ∙ h),
-    λ t. among-order i (idsOf (carrying topic windows ms))
+    λ h. carrying-tells ms (sym (among-order i (idsOf (carrying mode topic windows ms))) ∙ h),
+    λ t. among-order i (idsOf (carrying mode topic windows ms))
         ∙ tells-carrying ms (t .entry) (t .cached) (t .named)
-        (rw (lt-ltb (t .entry .window) windows (t .recent)) (in-among topic (topics (t .entry)) (t .carries))),
+        (rw (lt-ltb (t .entry .window) windows (t .recent)) (in-among topic (topics mode (t .entry)) (t .carries))),
   )
 
 -- ---- what is told of is sorted, and so no id is there twice
-pub told-distinct : (topic : List ℕ) (windows : ℕ) (ms : List Cached) → distinct (gossipIds topic windows ms) ≡ true
-told-distinct topic windows ms =
-    let l = gossipIds topic windows ms in
+pub told-distinct : (mode : Mode) (topic : List ℕ) (windows : ℕ) (ms : List Cached)
+    → distinct (gossipIds mode topic windows ms) ≡ true
+told-distinct mode topic windows ms =
+    let l = gossipIds mode topic windows ms in
     each-distinct l
     (λ i j h k e.
-    let p = gossip-sorted topic windows ms i j h k in
+    let p = gossip-sorted mode topic windows ms i j h k in
     let z : precedesBytes (getD l j []) (getD l j []) ≡ true =
     subst (λ (x : List ℕ). precedesBytes x (getD l j []) ≡ true) e p in
     let y = order-irreflexive (getD l j []) in
@@ -479,8 +489,8 @@ mem-held m (k ∷ ms) d =
     (λ (r : List·Memᴰ m ms). either (sameBytes (k .id) (m .id)) (λ t. simp t) (λ t. simp t (mem-held m ms r)))
     (List·Memᴰ·cases-cons d)
 
-pub told-held : (topic : List ℕ) (windows : ℕ) (ms : List Cached) (i : List ℕ)
-    → among i (gossipIds topic windows ms) ≡ true → held i ms ≡ true
-told-held topic windows ms i h =
-    let t = gossip-exactly i topic windows ms .0 h in
+pub told-held : (mode : Mode) (topic : List ℕ) (windows : ℕ) (ms : List Cached) (i : List ℕ)
+    → among i (gossipIds mode topic windows ms) ≡ true → held i ms ≡ true
+told-held mode topic windows ms i h =
+    let t = gossip-exactly mode i topic windows ms .0 h in
     subst (λ (x : List ℕ). held x ms ≡ true) (t .named) (mem-held (t .entry) ms (t .cached))

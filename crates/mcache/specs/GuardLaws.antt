@@ -8,6 +8,7 @@ use native.Mathlib.Omega.{arith}
 use lib.ListN.{length, length-append}
 use lib.Seq.{sets}
 use borrow.Author.Tests.{leb-true, le-leb, eqb-true, eq-eqb}
+use Rattle.basis.specs.Dialect.{modeOf}
 use Rattle.basis.specs.Cases.{both}
 use Rattle.rows.specs.declared.Ring.{Ring}
 use Rattle.protobuf.specs.Walk.{between}
@@ -141,7 +142,7 @@ pub form-fit : (flags : ℕ) (p : List ℕ) (word : Bool) (a e b f : ℕ) (out :
     → Forms p a e b f out n left → (n ≡ length (idBytes p a e b f)) × (left ≡ sets out 0 (idBytes p a e b f))
 unfolding formCount formLeft
 form-fit flags p word a e b f out n left h room k =
-    let w = id-fits p a e b f (fit-parts flags p word a e b f h) in
+    let w = id-fits (modeOf flags) p a e b f (fit-parts flags p word a e b f h) in
     let l = id-length p a e b f (w .from .1) (w .seqno .1) in
     let t = forms-when (length p) a e b f (length out) (w .from .0) (w .from .1) (w .seqno .0) (w .seqno .1)
     (omega arith) in

@@ -9,7 +9,7 @@ use lib.ListN.{length, getD, replicate}
 use lib.Dec.{ltb, eqb}
 use borrow.Author.Tests.{ltb-true, ltb-false}
 use Rattle.basis.specs.declared.Edition.{Edition}
-use Rattle.basis.specs.Dialect.{spoken}
+use Rattle.basis.specs.Dialect.{modeOf, spoken}
 use Rattle.basis.specs.Cases.{either}
 use Rattle.basis.specs.Told.{done}
 use Rattle.rows.specs.Rows.{placeOf, rowsIn}
@@ -106,8 +106,8 @@ under-cached c st m id f z k n =
 module _
     (c : MessageCache) (st : List ℕ) (ed : Edition) (body : List ℕ) (i a e x y z w : ℕ)
     (fine : lentOf c st ≡ lent.Fine)
-    (ok : acceptOf (spoken ed) body ≡ checked.Fine)
-    (there : messageAt body i ≡ at.At a e)
+    (ok : acceptOf (spoken (modeOf (c .flags)) ed) body ≡ checked.Fine)
+    (there : messageAt (modeOf (c .flags)) body i ≡ at.At a e)
     (fit : admissionOf (c .flags) (between body a e) true ≡ admission.Fit x y z w)
   where
     abbrev p : List ℕ

@@ -48,7 +48,8 @@ get id (m ∷ ms) = cond (sameBytes (m .id) id) (m .message) (get id ms)
 unfoldable pub carrying : Mode → List ℕ → ℕ → List Cached → List Cached
 carrying mode topic windows [] = []
 carrying mode topic windows (m ∷ ms) =
-    cond (ltb (m .window) windows && among topic (topics mode m)) (m ∷ carrying mode topic windows ms) (carrying mode topic windows ms)
+    cond (ltb (m .window) windows && among topic (topics mode m)) (m ∷ carrying mode topic windows ms)
+    (carrying mode topic windows ms)
 
 -- their ids in byte order, each once
 unfoldable pub enterId : List ℕ → List (List ℕ) → List (List ℕ)
@@ -72,4 +73,5 @@ offerFor carried age windows =
 unfoldable pub offerOf : Mode → List ℕ → List ℕ → ℕ → List Cached → Offer
 offerOf mode id topic windows [] = offer.NotCached
 offerOf mode id topic windows (m ∷ ms) =
-    cond (sameBytes (m .id) id) (offerFor (among topic (topics mode m)) (m .window) windows) (offerOf mode id topic windows ms)
+    cond (sameBytes (m .id) id) (offerFor (among topic (topics mode m)) (m .window) windows)
+    (offerOf mode id topic windows ms)

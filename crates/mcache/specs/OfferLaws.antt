@@ -9,6 +9,8 @@ use native.Mathlib.Omega.{arith}
 use lib.ListN.{length, getD}
 use lib.Dec.{leb, ltb}
 use borrow.Author.Tests.{leb-true, ltb-true, ltb-false, lt-ltb, le-ltb}
+use Rattle.basis.specs.declared.Mode.{Mode}
+use Rattle.basis.specs.Dialect.{modeOf}
 use Rattle.basis.specs.Cases.{either, clash, both}
 use Rattle.rows.specs.Rows.{placeOf}
 use Rattle.rows.specs.Ids.{sameBytes, among, distinct, indexOf}
@@ -27,22 +29,24 @@ use Rattle.mcache.specs.Laws.{index-cached, row-cached}
 use Rattle.mcache.specs.GossipLaws.{among-in, in-among, mem-held, topic-kept, gossip-exactly}
 
 -- ---- what each answer says of an id, a topic, the windows asked for and the messages; `is` tells which is given
-pub record Answers (id topic : List ℕ) (windows : ℕ) (ms : List Cached) (is : Offer → Type 0) : Type 0 where
+pub record Answers (mode : Mode) (id topic : List ℕ) (windows : ℕ) (ms : List Cached) (is : Offer
+    → Type 0) : Type 0 where
   -- no cached message has the id
   pub not-cached : is offer.NotCached ↔ ((m : Cached) → List·Memᴰ m ms → m .id ≡ id → ⊥)
   -- a cached message has it, and the topic is not among its topics
   pub without-topic : is offer.WithoutTopic
-      ↔ ((m : Cached) × List·Memᴰ m ms × (m .id ≡ id) × (List·Memᴰ topic (topics m) → ⊥))
+      ↔ ((m : Cached) × List·Memᴰ m ms × (m .id ≡ id) × (List·Memᴰ topic (topics mode m) → ⊥))
   -- a cached message has it and carries the topic; this is its window's age, which the windows asked for do not reach
   pub older-window : (age : ℕ) → is (offer.OlderWindow age)
-      ↔ ((m : Cached) × List·Memᴰ m ms × (m .id ≡ id) × List·Memᴰ topic (topics m) × (m .window ≡ age) × (windows ≤ age))
+      ↔ ((m : Cached) × List·Memᴰ m ms × (m .id ≡ id) × List·Memᴰ topic (topics mode m) × (m .window ≡ age)
+      × (windows ≤ age))
   -- it is among the ids that are told of
-  pub listed : is offer.Listed ↔ (among id (gossipIds topic windows ms) ≡ true)
+  pub listed : is offer.Listed ↔ (among id (gossipIds mode topic windows ms) ≡ true)
 
 -- told in other words, they are the same
-pub answers-as : {id topic : List ℕ} {windows : ℕ} {ms : List Cached} {is has : Offer → Type 0}
-    → ((o : Offer) → has o ↔ is o) → Answers id topic windows ms is → Answers id topic windows ms has
-answers-as w a =
+pub answers-as : (mode : Mode) {id topic : List ℕ} {windows : ℕ} {ms : List Cached} {is has : Offer → Type 0}
+    → ((o : Offer) → has o ↔ is o) → Answers mode id topic windows ms is → Answers mode id topic windows ms has
+answers-as mode w a =
     record {
       not-cached = (λ h. a .not-cached .0 (w offer.NotCached .0 h), λ x. w offer.NotCached .1 (a .not-cached .1 x));
       without-topic = (
@@ -59,7 +63,8 @@ answers-as w a =
 -- ---- of one message
 module _ (age windows : ℕ) where
   for-none : (carried : Bool) → offerFor carried age windows ≡ offer.NotCached → ⊥
-  for-none true h = either (ltb age windows) (λ t. clash (let z = rw t at h in cc)) (λ t. clash (let z = rw t at h in cc))
+  for-none true h = either (ltb age windows) (λ t. clash (let z = rw t at h in cc))
+      (λ t. clash (let z = rw t at h in cc))
   for-none false h = clash (cc)
 
   for-without : (carried : Bool) → offerFor carried age windows ≡ offer.WithoutTopic → carried ≡ false
@@ -80,15 +85,15 @@ module _ (age windows : ℕ) where
   for-listed false h = clash (cc)
 
 -- ---- of the messages
-module _ (id topic : List ℕ) (windows : ℕ) where
+module _ (mode : Mode) (id topic : List ℕ) (windows : ℕ) where
   abbrev saysOf : Cached → Offer
-  saysOf m = offerFor (among topic (topics m)) (m .window) windows
+  saysOf m = offerFor (among topic (topics mode m)) (m .window) windows
 
   abbrev Named : List Cached → Type 0
-  Named ms = (m : Cached) × List·Memᴰ m ms × (m .id ≡ id) × (offerOf id topic windows ms ≡ saysOf m)
+  Named ms = (m : Cached) × List·Memᴰ m ms × (m .id ≡ id) × (offerOf mode id topic windows ms ≡ saysOf m)
 
   abbrev None : List Cached → Type 0
-  None ms = ((m : Cached) → List·Memᴰ m ms → m .id ≡ id → ⊥) × (offerOf id topic windows ms ≡ offer.NotCached)
+  None ms = ((m : Cached) → List·Memᴰ m ms → m .id ≡ id → ⊥) × (offerOf mode id topic windows ms ≡ offer.NotCached)
 
   -- none has the id, or it is said of one that has it
   cases : (ms : List Cached) → None ms ⊎ Named ms
@@ -109,7 +114,7 @@ module _ (id topic : List ℕ) (windows : ℕ) where
 
   -- ids differ: it is said of the one that has it
   the-one : (ms : List Cached) → distinct (idsOf ms) ≡ true → (m : Cached) → List·Memᴰ m ms → m .id ≡ id
-      → offerOf id topic windows ms ≡ saysOf m
+      → offerOf mode id topic windows ms ≡ saysOf m
   unfolding offerOf distinct held
   the-one [] u m d e = absurd (List·Memᴰ·not-nil d)
   the-one (k ∷ ms) u m d e =
@@ -127,95 +132,105 @@ module _ (id topic : List ℕ) (windows : ℕ) where
   -- so
   module _ (ms : List Cached) (once : distinct (idsOf ms) ≡ true) where
     abbrev said : Offer
-    said = offerOf id topic windows ms
+    said = offerOf mode id topic windows ms
 
-    pub offer-exactly : Answers id topic windows ms (λ o. offerOf id topic windows ms ≡ o)
+    pub offer-exactly : Answers mode id topic windows ms (λ o. offerOf mode id topic windows ms ≡ o)
     offer-exactly =
         record {
           not-cached = (
-            λ h m d e. for-none (m .window) windows (among topic (topics m)) (sym (the-one ms once m d e) ∙ h),
+            λ h m d e. for-none (m .window) windows (among topic (topics mode m)) (sym (the-one ms once m d e) ∙ h),
             λ h. ⊎-elim (λ (n : None ms). n .1) (λ (y : Named ms). absurd (h (y .0) (y .1) (y .2))) (cases ms),
           );
           without-topic = (
             λ h. ⊎-elim (λ (n : None ms). clash (let z = sym (n .1) ∙ h in cc))
                 (λ (y : Named ms).
-                let f = for-without (y .0 .window) windows (among topic (topics (y .0))) (sym (y .3) ∙ h) in
-                (y .0, y .1, y .2, λ d. clash (let g = in-among topic (topics (y .0)) d in cc)))
+                let f = for-without (y .0 .window) windows (among topic (topics mode (y .0))) (sym (y .3) ∙ h) in
+                (y .0, y .1, y .2, λ d. clash (let g = in-among topic (topics mode (y .0)) d in cc)))
                 (cases ms),
             λ y. the-one ms once (y .0) (y .1) (y .2)
-                ∙ either (among topic (topics (y .0))) (λ t. absurd (y .3 (among-in topic (topics (y .0)) t)))
+                ∙ either (among topic (topics mode (y .0))) (λ t. absurd (y .3 (among-in topic (topics mode (y .0)) t)))
                 (λ t. rw t),
           );
           older-window = λ age. (
             λ h. ⊎-elim (λ (n : None ms). clash (let z = sym (n .1) ∙ h in cc))
                 (λ (y : Named ms).
-                let f = for-older (y .0 .window) windows (among topic (topics (y .0))) age (sym (y .3) ∙ h) in
-                (y .0, y .1, y .2, among-in topic (topics (y .0)) (f .0), f .1, omega (arith, f .1, f .2)))
+                let f = for-older (y .0 .window) windows (among topic (topics mode (y .0))) age (sym (y .3) ∙ h) in
+                (y .0, y .1, y .2, among-in topic (topics mode (y .0)) (f .0), f .1, omega (arith, f .1, f .2)))
                 (cases ms),
             λ y. the-one ms once (y .0) (y .1) (y .2)
-                ∙ rw (in-among topic (topics (y .0)) (y .3), y .4, le-ltb age windows (y .5)),
+                ∙ rw (in-among topic (topics mode (y .0)) (y .3), y .4, le-ltb age windows (y .5)),
           );
           listed = (
             λ h. ⊎-elim (λ (n : None ms). clash (let z = sym (n .1) ∙ h in cc))
                 (λ (y : Named ms).
-                let f = for-listed (y .0 .window) windows (among topic (topics (y .0))) (sym (y .3) ∙ h) in
-                gossip-exactly id topic windows ms .1
+                let f = for-listed (y .0 .window) windows (among topic (topics mode (y .0))) (sym (y .3) ∙ h) in
+                gossip-exactly mode id topic windows ms .1
                 (record {
                   entry = y .0;
                   cached = y .1;
                   named = y .2;
                   recent = f .1;
-                  carries = among-in topic (topics (y .0)) (f .0);
+                  carries = among-in topic (topics mode (y .0)) (f .0);
                 }))
                 (cases ms),
-            λ h. let t = gossip-exactly id topic windows ms .0 h in
+            λ h. let t = gossip-exactly mode id topic windows ms .0 h in
                 the-one ms once (t .entry) (t .cached) (t .named)
-                ∙ rw (in-among topic (topics (t .entry)) (t .carries), lt-ltb (t .entry .window) windows (t .recent)),
+                ∙ rw (
+                  in-among topic (topics mode (t .entry)) (t .carries),
+                  lt-ltb (t .entry .window) windows
+                      (t .recent),
+                ),
           );
         }
 
 -- ---- the cache answers so
-module _ (id topic : List ℕ) (windows : ℕ) where
+module _ (mode : Mode) (id topic : List ℕ) (windows : ℕ) where
   offer-here : (ms : List Cached) (d : Cached) → indexOf id (idsOf ms) < length ms
-      → offerOf id topic windows ms ≡ saysOf id topic windows (getD ms (indexOf id (idsOf ms)) d)
+      → offerOf mode id topic windows ms ≡ saysOf mode id topic windows (getD ms (indexOf id (idsOf ms)) d)
   unfolding offerOf indexOf
   offer-here [] d h = absurd (omega arith)
   offer-here (m ∷ ms) d h =
       either (sameBytes (m .id) id) (λ t. rw t)
       (λ t. let k : suc (indexOf id (idsOf ms)) < suc (length ms) = rw t at h in rw t (offer-here ms d (omega arith)))
 
-  offer-none : (ms : List Cached) → length ms ≤ indexOf id (idsOf ms) → offerOf id topic windows ms ≡ offer.NotCached
+  offer-none : (ms : List Cached) → length ms ≤ indexOf id (idsOf ms)
+      → offerOf mode id topic windows ms ≡ offer.NotCached
   unfolding offerOf indexOf
   offer-none [] h = refl
   offer-none (m ∷ ms) h =
       either (sameBytes (m .id) id) (λ t. let k : suc (length ms) ≤ 0 = rw t at h in absurd (omega arith))
       (λ t. let k : suc (length ms) ≤ suc (indexOf id (idsOf ms)) = rw t at h in rw t (offer-none ms (omega arith)))
 
-  module _ (c : MessageCache) (st : List ℕ) (fine : lentOf c st ≡ lent.Fine) where
-    offer-row : (i : ℕ) → i < c .count
-        → offerAt c st topic windows (placeOf (ringOf c) i) ≡ saysOf id topic windows (cachedAt c st (placeOf (ringOf c) i))
-    unfolding offerAt cachedAt
-    offer-row i h = rw (topic-kept c st topic i (fine-tests c st fine) h)
+module _ (id topic : List ℕ) (windows : ℕ) (c : MessageCache) (st : List ℕ) (fine : lentOf c st ≡ lent.Fine) where
+  offer-row : (i : ℕ) → i < c .count
+      → offerAt c st topic windows (placeOf (ringOf c) i)
+      ≡ saysOf (modeOf (c .flags)) id topic windows (cachedAt c st (placeOf (ringOf c) i))
+  unfolding offerAt cachedAt
+  offer-row i h = rw (topic-kept c st topic i (fine-tests c st fine) h)
 
-    pub offer-cached : offerIn c st id topic windows ≡ offerOf id topic windows (cachedIn c st)
-    unfolding offerIn
-    offer-cached =
-        let x = index-cached c st id in
-        let n = length-cached c st in
-        rw (fine-lies c st fine)
-        (either (ltb (indexIn c id) (c .count))
-        (λ t.
-        let h = ltb-true (indexIn c id) (c .count) t in
-        rw t (offer-row (indexIn c id) h ∙ sym (offer-here (cachedIn c st) (new [] []) (omega arith)
-        ∙ ap (λ (j : ℕ). saysOf id topic windows (getD (cachedIn c st) j (new [] []))) x
-        ∙ ap (saysOf id topic windows) (row-cached c st (indexIn c id) (new [] []) h))))
-        (λ t. let h = ltb-false (indexIn c id) (c .count) t in rw t (sym (offer-none (cachedIn c st) (omega arith)))))
+  pub offer-cached : offerIn c st id topic windows ≡ offerOf (modeOf (c .flags)) id topic windows (cachedIn c st)
+  unfolding offerIn
+  offer-cached =
+      let x = index-cached c st id in
+      let n = length-cached c st in
+      rw (fine-lies c st fine)
+      (either (ltb (indexIn c id) (c .count))
+      (λ t.
+      let h = ltb-true (indexIn c id) (c .count) t in
+      rw t (offer-row (indexIn c id) h ∙ sym (offer-here (modeOf (c .flags)) id topic windows (cachedIn c st)
+      (new [] []) (omega arith)
+      ∙ ap (λ (j : ℕ). saysOf (modeOf (c .flags)) id topic windows (getD (cachedIn c st) j (new [] []))) x
+      ∙ ap (saysOf (modeOf (c .flags)) id topic windows) (row-cached c st (indexIn c id) (new [] []) h))))
+      (λ t. let h = ltb-false (indexIn c id) (c .count) t in rw t
+      (sym (offer-none (modeOf (c .flags)) id topic windows (cachedIn c st) (omega arith)))))
 
-    -- each answer, exactly, of a tested cache
-    pub answers-exactly : Answers id topic windows (cachedIn c st) (λ o. offerIn c st id topic windows ≡ o)
-    answers-exactly =
-        answers-as (λ o. (λ h. sym offer-cached ∙ h, λ h. offer-cached ∙ h))
-        (offer-exactly id topic windows (cachedIn c st) (rw (ids-cached c st) (fine-tests c st fine .once)))
+  -- each answer, exactly, of a tested cache
+  pub answers-exactly : Answers (modeOf (c .flags)) id topic windows (cachedIn c st)
+      (λ o. offerIn c st id topic windows ≡ o)
+  answers-exactly =
+      answers-as (modeOf (c .flags)) (λ o. (λ h. sym offer-cached ∙ h, λ h. offer-cached ∙ h))
+      (offer-exactly (modeOf (c .flags)) id topic windows (cachedIn c st)
+      (rw (ids-cached c st) (fine-tests c st fine .once)))
 
 -- ---- an age that is named is below history_len
 falls-mem : (most : ℕ) (m : Cached) (ms : List Cached) → fallsFrom most (windowsOf ms) ≡ true → List·Memᴰ m ms
@@ -228,8 +243,14 @@ falls-mem most m (k ∷ ms) f d =
     ⊎-elim (λ (e : m ≡ k). omega (arith, ap (λ (x : Cached). x .window) e))
     (λ (r : List·Memᴰ m ms). omega (arith, falls-mem (k .window) m ms (b .1) r)) (List·Memᴰ·cases-cons d)
 
-pub cached-recent : (c : MessageCache) (st : List ℕ) (m : Cached) → lentOf c st ≡ lent.Fine → List·Memᴰ m (cachedIn c st)
+pub cached-recent : (c : MessageCache) (st : List ℕ) (m : Cached) → lentOf c st ≡ lent.Fine
+    → List·Memᴰ m (cachedIn c st)
     → m .window < c .«history_len»
 cached-recent c st m fine d =
     let t = fine-tests c st fine in
-    omega (arith, t .history-some, falls-mem (c .«history_len» - 1) m (cachedIn c st) (rw (windows-cached c st) (t .falls)) d)
+    omega (
+      arith,
+      t .history-some,
+      falls-mem (c .«history_len» - 1) m (cachedIn c st)
+          (rw (windows-cached c st) (t .falls)) d,
+    )

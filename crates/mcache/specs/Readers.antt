@@ -7,8 +7,10 @@ use mathlib.Core.Logic.{⊎-elim}
 use native.Mathlib.Omega.{arith}
 use lib.ListN.{length, drop}
 use lib.Seq.{sets}
+use lib.Dec.{eqb}
 use Rattle.basis.specs.declared.Edition.{Edition}
-use Rattle.basis.specs.Dialect.{spoken}
+use Rattle.basis.specs.Dialect.{modeOf, spoken}
+use Rattle.basis.specs.Cases.{either}
 use Rattle.basis.specs.Told.{done}
 use Rattle.rows.specs.declared.Ring.{Ring}
 use Rattle.rows.specs.Rows.{placeOf, without, oneMore}
@@ -21,12 +23,15 @@ use Rattle.ids.specs.Ids.{messageAt, idBytes}
 use Rattle.admission.specs.declared.Admission.the-variants as admission
 use Rattle.admission.specs.Admission.{topicPlaces, admissionOf}
 use Rattle.mcache.specs.declared.MessageCache.{MessageCache}
+use Rattle.mcache.specs.declared.Lent.{Lent}
 use Rattle.mcache.specs.declared.Lent.the-variants as lent
 use Rattle.mcache.specs.declared.Put.the-variants as put
 use Rattle.mcache.specs.Told.{putTold}
 use Rattle.mcache.specs.Messages.{Cached, held, put as putIn}
-use Rattle.mcache.specs.State.{cachedIn, messageSize, tableOf, topicsAt}
-use Rattle.mcache.specs.Calls.{lentOf, Plan, no, keep, answered, keptIn, storedIn, planned}
+use Rattle.mcache.specs.State.{cachedIn, messageSize, tableOf, topicsAt, legal, fresh, dropped, appended}
+use Rattle.mcache.specs.State.{passed, aged}
+use Rattle.mcache.specs.Calls.{lentOf, Plan, no, keep, answered, keptIn, storedIn, planned, startCache}
+use Rattle.mcache.specs.Calls.{whenFine, entered, shifted, shiftCache}
 use Rattle.mcache.specs.WellFormed.{Sized, rowOf}
 use Rattle.mcache.specs.StateLaws.{fine-tests}
 use Rattle.mcache.specs.CachedLaws.{new, leaving, spot, stays, spot-in, spot-free, grown, entered-some}
@@ -58,8 +63,8 @@ oldest-leaves max id m oldest ms h f =
 module _
     (c : MessageCache) (st : List ℕ) (ed : Edition) (body : List ℕ) (i a e x y z w : ℕ)
     (fine : lentOf c st ≡ lent.Fine)
-    (ok : acceptOf (spoken ed) body ≡ checked.Fine)
-    (there : messageAt body i ≡ at.At a e)
+    (ok : acceptOf (spoken (modeOf (c .flags)) ed) body ≡ checked.Fine)
+    (there : messageAt (modeOf (c .flags)) body i ≡ at.At a e)
     (fit : admissionOf (c .flags) (between body a e) true ≡ admission.Fit x y z w)
   where
     -- a put of a held id answers so and changes nothing, also where the message is another one with that id
@@ -95,7 +100,7 @@ pub record Written (c d : MessageCache) (st st2 m : List ℕ) : Type 0 where
   -- and the message is all that is written
   pub stored : st2 ≡ sets st (place * messageSize) m
   -- its topics' places stand beside it, whatever stood there before
-  pub topics : topicsAt (tableOf d) place ≡ topicPlaces m
+  pub topics : topicsAt (tableOf d) place ≡ topicPlaces (modeOf (c .flags)) m
 
 full-place : (ring : Ring) → ring .start ≤ ring .cap → 1 ≤ ring .cap
     → placeOf (without 1 ring) (ring .cap - 1) ≡ placeOf ring 0
@@ -148,3 +153,28 @@ pub freed-place-used : (c : MessageCache) (st : List ℕ) (ed : Edition) (body m
 freed-place-used c st ed body m id i fine z some e =
     rw (e, entered-some m id c some, stored-some c st m some)
     (grown-written c st m id fine z some (planned-keeps c st ed body m id i fine e))
+
+-- ---- the flags, and with them the mode, are those of the start
+pub start-flags : (history max flags : ℕ) → legal history max flags ≡ true
+    → startCache history max flags .flags ≡ flags
+unfolding startCache fresh
+start-flags history max flags h = rw h
+
+plan-flags : (c : MessageCache) (r : Plan) → keptIn c r .flags ≡ c .flags
+unfolding entered passed appended dropped
+plan-flags c (no r) = refl
+plan-flags c (keep m id) = either (eqb (c .«max_messages») 0) (λ t. rw t) (λ t. rw t)
+
+pub put-flags : (c : MessageCache) (st : List ℕ) (ed : Edition) (body : List ℕ) (i : ℕ)
+    → keptIn c (planned c st ed body i) .flags ≡ c .flags
+put-flags c st ed body i = plan-flags c (planned c st ed body i)
+
+when-flags : (c : MessageCache) (r : Lent) → whenFine r (shifted c) c .flags ≡ c .flags
+unfolding shifted aged dropped
+when-flags c lent.Fine = refl
+when-flags c lent.BadStore = refl
+when-flags c lent.Malformed = refl
+
+pub shift-flags : (c : MessageCache) (st : List ℕ) → shiftCache c st .flags ≡ c .flags
+unfolding shiftCache
+shift-flags c st = when-flags c (lentOf c st)

@@ -7,6 +7,7 @@ use native.Mathlib.Omega.{arith}
 use lib.ListN.{length, drop, getD}
 use lib.Dec.{leb, eqb}
 use borrow.Author.Tests.{le-leb, leb-true, eqb-true, eq-eqb}
+use Rattle.basis.specs.Dialect.{modeOf}
 use Rattle.basis.specs.Cases.{either, clash, both}
 use Rattle.rows.specs.declared.Ring.{Ring}
 use Rattle.rows.specs.Rows.{tab, placeOf, rowsIn}
@@ -130,9 +131,11 @@ module _ (c : MessageCache) (st : List ℕ) (t : Tests c st) (i : ℕ) (h : i < 
   p = placeOf (ringOf c) i
 
   gives-row : (leb (getD (c .len) p 0) messageSize ≡ true)
-      × (keptWith (c .flags) (messageIn (c .len) st p) (idAt messageIdSize (c .«id_len») (c .ids) p) (topicsAt (tableOf c) p) ≡ true)
+      × (keptWith (c .flags) (messageIn (c .len) st p) (idAt messageIdSize (c .«id_len») (c .ids) p)
+      (topicsAt (tableOf c) p) ≡ true)
   unfolding givesIn givesAt
-  gives-row = both _ _ (true-in (givesAt (c .flags) (c .len) (c .«id_len») (c .ids) (tableOf c) st) (ringOf c) (t .gives) i h)
+  gives-row = both _ _ (true-in (givesAt (c .flags) (c .len) (c .«id_len») (c .ids) (tableOf c) st) (ringOf c)
+      (t .gives) i h)
 
   pub row-short : getD (c .len) p 0 ≤ messageSize
   row-short = leb-true (getD (c .len) p 0) messageSize (gives-row .0)
@@ -140,7 +143,7 @@ module _ (c : MessageCache) (st : List ℕ) (t : Tests c st) (i : ℕ) (h : i < 
   pub row-gives : givesId (c .flags) (messageIn (c .len) st p) (idAt messageIdSize (c .«id_len») (c .ids) p) ≡ true
   row-gives = kept-only (c .flags) (messageIn (c .len) st p) _ _ (gives-row .1) .0
 
-  pub row-topics : topicsAt (tableOf c) p ≡ topicPlaces (messageIn (c .len) st p)
+  pub row-topics : topicsAt (tableOf c) p ≡ topicPlaces (modeOf (c .flags)) (messageIn (c .len) st p)
   row-topics = kept-only (c .flags) (messageIn (c .len) st p) _ _ (gives-row .1) .1
 
   pub row-few : getD (c .«topic_count») p 0 ≤ maxTopics
@@ -149,7 +152,11 @@ module _ (c : MessageCache) (st : List ℕ) (t : Tests c st) (i : ℕ) (h : i < 
       let n = length-spans (drop (p * maxTopics) (c .«topic_start»)) (drop (p * maxTopics) (c .«topic_len»))
       (getD (c .«topic_count») p 0) in
       let e = ap (λ (l : List Span). length l) row-topics in
-      omega (arith, gives-few (c .flags) (messageIn (c .len) st p) (idAt messageIdSize (c .«id_len») (c .ids) p) row-gives)
+      omega (
+        arith,
+        gives-few (c .flags) (messageIn (c .len) st p)
+            (idAt messageIdSize (c .«id_len») (c .ids) p) row-gives,
+      )
 
   pub row-id-short : getD (c .«id_len») p 0 ≤ messageIdSize
   row-id-short = short-in messageIdSize (c .«id_len») (ringOf c) (t .id-short) i h

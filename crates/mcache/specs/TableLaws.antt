@@ -8,6 +8,8 @@ use lib.ListN.{length, take, drop, getD, set, length-map, length-set, length-tak
 use lib.Seq.{sets, length-sets, take-all, getD-set-same, getD-set-other}
 use lib.Dec.{ltb}
 use borrow.Author.Tests.{ltb-true, ltb-false}
+use Rattle.basis.specs.declared.Mode.{Mode}
+use Rattle.basis.specs.Dialect.{modeOf}
 use Rattle.basis.specs.Cases.{either}
 use Rattle.rows.specs.ListLaws.{drop-sets, part-sets}
 use Rattle.admission.specs.Admission.{Span, topicPlaces, startsOf, sizesOf, spansIn, givesId}
@@ -16,14 +18,15 @@ use Rattle.mcache.specs.State.{Table, topicsAt, keptPlaces, noted, Roomy
 
 -- ---- what is kept of a message
 -- at most four places
-pub kept-few : (m : List ℕ) → length (keptPlaces m) ≤ maxTopics
+pub kept-few : (mode : Mode) (m : List ℕ) → length (keptPlaces mode m) ≤ maxTopics
 unfolding keptPlaces
-kept-few m = rw (length-take maxTopics (topicPlaces m)) (omega arith)
+kept-few mode m = rw (length-take maxTopics (topicPlaces mode m)) (omega arith)
 
 -- all, of a message that may be taken
-pub kept-all : (flags : ℕ) (m id : List ℕ) → givesId flags m id ≡ true → keptPlaces m ≡ topicPlaces m
+pub kept-all : (flags : ℕ) (m id : List ℕ) → givesId flags m id ≡ true
+    → keptPlaces (modeOf flags) m ≡ topicPlaces (modeOf flags) m
 unfolding keptPlaces
-kept-all flags m id g = take-all maxTopics (topicPlaces m) (gives-few flags m id g)
+kept-all flags m id g = take-all maxTopics (topicPlaces (modeOf flags) m) (gives-few flags m id g)
 
 -- ---- a row written
 -- a part of four, where another is written
@@ -35,33 +38,34 @@ part-kept l vs p q n h k other =
     (λ t. let g = ltb-false q p t in
     ap (take n) (drop-sets l (p * maxTopics) vs (q * maxTopics) (omega (arith, other))))
 
-module _ (m : List ℕ) (p : ℕ) (t : Table) where
-  starts-few : length (startsOf (keptPlaces m)) ≤ maxTopics
-  starts-few = rw (length-map (keptPlaces m) (λ (s : Span). s .start)) (kept-few m)
+module _ (mode : Mode) (m : List ℕ) (p : ℕ) (t : Table) where
+  starts-few : length (startsOf (keptPlaces mode m)) ≤ maxTopics
+  starts-few = rw (length-map (keptPlaces mode m) (λ (s : Span). s .start)) (kept-few mode m)
 
-  sizes-few : length (sizesOf (keptPlaces m)) ≤ maxTopics
-  sizes-few = rw (length-map (keptPlaces m) (λ (s : Span). s .size)) (kept-few m)
+  sizes-few : length (sizesOf (keptPlaces mode m)) ≤ maxTopics
+  sizes-few = rw (length-map (keptPlaces mode m) (λ (s : Span). s .size)) (kept-few mode m)
 
-  pub noted-here : Roomy t → p < maxMessages → topicsAt (noted m p t) p ≡ keptPlaces m
+  pub noted-here : Roomy t → p < maxMessages → topicsAt (noted mode m p t) p ≡ keptPlaces mode m
   unfolding topicsAt noted
   noted-here r h =
-      rw (getD-set-same (t .counts) p (length (keptPlaces m)) 0 (omega (arith, r .counts)))
-      (spans-put (t .starts) (t .sizes) (p * maxTopics) (keptPlaces m) (omega (arith, kept-few m, r .starts))
-      (omega (arith, kept-few m, r .sizes)))
+      rw (getD-set-same (t .counts) p (length (keptPlaces mode m)) 0 (omega (arith, r .counts)))
+      (spans-put (t .starts) (t .sizes) (p * maxTopics) (keptPlaces mode m) (omega (arith, kept-few mode m, r .starts))
+      (omega (arith, kept-few mode m, r .sizes)))
 
-  pub noted-other : (q : ℕ) → (q ≡ p → ⊥) → getD (t .counts) q 0 ≤ maxTopics → topicsAt (noted m p t) q ≡ topicsAt t q
+  pub noted-other : (q : ℕ) → (q ≡ p → ⊥) → getD (t .counts) q 0 ≤ maxTopics
+      → topicsAt (noted mode m p t) q ≡ topicsAt t q
   unfolding topicsAt noted
   noted-other q other k =
-      rw (getD-set-other (t .counts) p q (length (keptPlaces m)) 0 other)
+      rw (getD-set-other (t .counts) p q (length (keptPlaces mode m)) 0 other)
       (spans-take _ _ _ _ (getD (t .counts) q 0)
-      (part-kept (t .starts) (startsOf (keptPlaces m)) p q (getD (t .counts) q 0) starts-few k other)
-      (part-kept (t .sizes) (sizesOf (keptPlaces m)) p q (getD (t .counts) q 0) sizes-few k other))
+      (part-kept (t .starts) (startsOf (keptPlaces mode m)) p q (getD (t .counts) q 0) starts-few k other)
+      (part-kept (t .sizes) (sizesOf (keptPlaces mode m)) p q (getD (t .counts) q 0) sizes-few k other))
 
-  pub noted-roomy : Roomy t → Roomy (noted m p t)
+  pub noted-roomy : Roomy t → Roomy (noted mode m p t)
   unfolding noted
   noted-roomy r =
       record {
-        counts = length-set (t .counts) p (length (keptPlaces m)) ∙ r .counts;
-        starts = length-sets (t .starts) (p * maxTopics) (startsOf (keptPlaces m)) ∙ r .starts;
-        sizes = length-sets (t .sizes) (p * maxTopics) (sizesOf (keptPlaces m)) ∙ r .sizes;
+        counts = length-set (t .counts) p (length (keptPlaces mode m)) ∙ r .counts;
+        starts = length-sets (t .starts) (p * maxTopics) (startsOf (keptPlaces mode m)) ∙ r .starts;
+        sizes = length-sets (t .sizes) (p * maxTopics) (sizesOf (keptPlaces mode m)) ∙ r .sizes;
       }

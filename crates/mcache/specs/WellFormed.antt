@@ -70,7 +70,8 @@ pub record WellFormed (c : MessageCache) (st : List ℕ) : Type 0 where
   -- each cached message may be taken under the flags and gives its stored id
   pub gives : (i : ℕ) → i < c .count → Gives (c .flags) (messageIn (c .len) st (rowOf c i)) (idOf c i)
   -- and its topics stand where the row has them: as many, each with this start and this length
-  pub topics : (i : ℕ) → i < c .count → topicsAt (tableOf c) (rowOf c i) ≡ topicPlaces (modeOf (c .flags)) (messageIn (c .len) st (rowOf c i))
+  pub topics : (i : ℕ) → i < c .count → topicsAt (tableOf c) (rowOf c i)
+      ≡ topicPlaces (modeOf (c .flags)) (messageIn (c .len) st (rowOf c i))
 
 -- ---- the states that the calls reach
 -- a new cache whose first message gets the arrival number `next`; `start` gives the number 0

@@ -9,6 +9,7 @@ use native.Mathlib.Nat.{zero-lt-suc, sub-zero}
 use lib.ListN.{length, getD}
 use lib.Dec.{leb, eqb}
 use borrow.Author.Tests.{leb-true, le-leb, eqb-true, eq-eqb}
+use Rattle.basis.specs.Dialect.{modeOf}
 use Rattle.basis.specs.Cases.{both}
 use Rattle.rows.specs.declared.Ring.{Ring}
 use Rattle.rows.specs.Rows.{tab, placeOf, rowsIn}
@@ -128,7 +129,8 @@ few-known flags h = le-leb flags maxFlags h
 
 gives-back : (flags : ℕ) (p i : List ℕ) → Gives flags p i → givesId flags p i ≡ true
 gives-back flags p i g =
-    rw (g .named) (gives-own flags p (g .records) (g .from-start) (g .from-end) (g .seqno-start) (g .seqno-end) (g .read)
+    rw (g .named) (gives-own flags p (g .records) (g .from-start) (g .from-end) (g .seqno-start) (g .seqno-end)
+    (g .read)
     (g .taken))
 
 rows-give : (c : MessageCache) (st : List ℕ) → WellFormed c st
@@ -194,9 +196,10 @@ well-formed-exactly c st y = (fine-well-formed c st y, well-formed-fine c st)
 -- ---- so in every state that the calls reach the kept places are those of the message's topics, and cut out of it they
 -- are its topics
 module _ {c : MessageCache} {st : List ℕ} (r : Reached c st) (i : ℕ) (h : i < c .count) where
-  pub reached-topics : topicsAt (tableOf c) (rowOf c i) ≡ topicPlaces (messageIn (c .len) st (rowOf c i))
+  pub reached-topics : topicsAt (tableOf c) (rowOf c i)
+      ≡ topicPlaces (modeOf (c .flags)) (messageIn (c .len) st (rowOf c i))
   reached-topics = row-topics c st (fine-tests c st (reached-fine r)) i h
 
   pub reached-cut : map (cut (messageIn (c .len) st (rowOf c i))) (topicsAt (tableOf c) (rowOf c i))
-      ≡ topicsOf (messageIn (c .len) st (rowOf c i))
-  reached-cut = rw reached-topics (cut-topics (messageIn (c .len) st (rowOf c i)))
+      ≡ topicsOf (modeOf (c .flags)) (messageIn (c .len) st (rowOf c i))
+  reached-cut = rw reached-topics (cut-topics (modeOf (c .flags)) (messageIn (c .len) st (rowOf c i)))

@@ -8,7 +8,7 @@ use lib.ListN.{length, getD, set, length-map}
 use lib.Dec.{leb, eqb}
 use borrow.Author.Tests.{leb-true, eqb-true, eqb-false, eq-eqb, ne-eqb}
 use Rattle.basis.specs.declared.Edition.{Edition}
-use Rattle.basis.specs.Dialect.{spoken}
+use Rattle.basis.specs.Dialect.{modeOf, spoken}
 use Rattle.basis.specs.Cases.{either, both}
 use Rattle.rows.specs.declared.Ring.{Ring}
 use Rattle.rows.specs.Rows.{placeOf}
@@ -115,8 +115,9 @@ at-moved k c body (at.At a e) = fit-moved k c (between body a e) (admissionOf (c
 
 body-moved : (k : ℕ) (c : MessageCache) (body : List ℕ) (i : ℕ) (r : Checked)
     → planBody (moved k c) body i r ≡ planBody c body i r
+unfolding moved
 body-moved k c body i (checked.Refused why) = refl
-body-moved k c body i checked.Fine = at-moved k c body (messageAt body i)
+body-moved k c body i checked.Fine = at-moved k c body (messageAt (modeOf (c .flags)) body i)
 
 -- ---- the state that a call leaves
 map-set : (f : ℕ → ℕ) (l : List ℕ) (p x : ℕ) → map f (set l p x) ≡ set (map f l) p (f x)
@@ -182,7 +183,8 @@ module _ (k : ℕ) (c : MessageCache) (st : List ℕ) (y : Typed c) where
       (λ l.
       let a = both (leb 1 (c .«history_len»)) _ l in
       let b = both (leb (c .«history_len») maxHistory) _ (a .1) in
-      let few = leb-true (c .«max_messages») maxMessages (both (leb (c .«max_messages») maxMessages) (knownFlags (c .flags)) (b .1) .0) in
+      let few = leb-true (c .«max_messages») maxMessages
+      (both (leb (c .«max_messages») maxMessages) (knownFlags (c .flags)) (b .1) .0) in
       and-same (leb (c .start) (c .«max_messages»)) _ _
       (λ a. and-same (leb (c .count) (c .«max_messages»)) _ _
       (λ b. rows-moved k c st y few (leb-true (c .start) (c .«max_messages») a)
@@ -198,8 +200,8 @@ module _ (k : ℕ) (c : MessageCache) (st : List ℕ) (y : Typed c) where
 
   -- the same answers
   pub wrap-free-put : (ed : Edition) (body : List ℕ) (i : ℕ) → planned (moved k c) st ed body i ≡ planned c st ed body i
-  unfolding planned
-  wrap-free-put ed body i = rw (wrap-free, body-moved k c body i (acceptOf (spoken ed) body))
+  unfolding planned moved
+  wrap-free-put ed body i = rw (wrap-free, body-moved k c body i (acceptOf (spoken (modeOf (c .flags)) ed) body))
 
   pub wrap-free-answer : (ed : Edition) (body : List ℕ) (i : ℕ) → answered (planned (moved k c) st ed body i) ≡ answered
       (planned c st ed body i)

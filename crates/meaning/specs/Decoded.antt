@@ -6,12 +6,13 @@ use mathlib.Core.Path.{_≡_, refl, sym, ap, ap₂, subst, _∙_}
 use mathlib.Core.Bool.{Bool, true, false, cond}
 use mathlib.Core.List.{List, [], _∷_}
 use mathlib.Core.Option.{Option, none, some}
-use mathlib.Core.Logic.{_↔_}
+use mathlib.Core.Logic.{_≢_, _↔_}
 use native.Mathlib.Omega.{arith}
 use lib.ListN.{length, drop}
 use lib.Seq.{sets, sets-eq, length-sets, drop-at}
 use lib.Dec.{ltb, eqb}
 use borrow.Author.Tests.{ltb-true, ltb-false, lt-ltb, le-ltb}
+use Rattle.basis.specs.declared.Mode.{Mode}
 use Rattle.basis.specs.declared.Dialect.{Dialect}
 use Rattle.basis.specs.declared.Told.{Told}
 use Rattle.basis.specs.Refusals.{too-large, too-many-records, short-room}
@@ -23,10 +24,10 @@ use Rattle.utf8.specs.Utf8.{isUtf8}
 use Rattle.protobuf.specs.declared.Field.{Field}
 use Rattle.protobuf.specs.declared.WireError.{WireError}
 use Rattle.protobuf.specs.declared.Refusal.{Refusal as Placed}
-use Rattle.protobuf.specs.Refusal.{nowhere}
+use Rattle.protobuf.specs.Refusal.{spotOf, nowhere, placedAs, standing}
 use Rattle.protobuf.specs.declared.WireError.the-variants.{InvalidUtf8, TooLarge, TooManyRecords}
 use Rattle.protobuf.specs.Told.{wireTold, refusalTold, refusalNumber}
-use Rattle.protobuf.specs.RefusalLaws.{wire-range, field-early}
+use Rattle.protobuf.specs.RefusalLaws.{wire-range, OfField, low as field-low, of-group as field-group, field-early}
 use Rattle.protobuf.specs.Walk.{Fields, end, refused, _then_, fieldsOf, between}
 use Rattle.protobuf.specs.WalkLaws.{along}
 use Rattle.schema.specs.declared.Kind.{Kind}
@@ -57,9 +58,9 @@ use Rattle.message.specs.Told.{decodedTold}
 use Rattle.rpc.specs.Rpc.{Rpc}
 use Rattle.rpc.specs.Grammar.{IsRpc}
 use Rattle.meaning.specs.ReadBack.{nothing, gather, readBack}
-use Rattle.meaning.specs.Refused.{RefusedAt, placeAt}
+use Rattle.meaning.specs.Refused.{RefusedAt, toldAt}
 use Rattle.meaning.specs.Accepted.{rpc-means, rpc-accepted}
-use Rattle.meaning.specs.RefusedLaws.{First, first-exactly, first-counts, refused-early}
+use Rattle.meaning.specs.RefusedLaws.{First, first-exactly, first-counts, OfBody, low, of-group, refused-early}
 use Rattle.meaning.specs.Back.{read-back, one-rpc}
 use Rattle.meaning.specs.Table.{all-records, rowsIn, table-back}
 use Rattle.meaning.specs.Size.{recordsIn, rpc-records}
@@ -71,12 +72,13 @@ pub record Within (d : Dialect) (s : List ℕ) (x : Rpc) : Type 0 where
   pub small : length s ≤ 65536
   pub few : recordsIn x ≤ 512
 
--- what a body is refused with: 10 above 65,536 bytes, its length; 1 to 7, the first in reading order, with its place; 11
--- above 512 records, their number
+-- what a body is refused with: 10 above 65,536 bytes, its length; 1 to 7 and 14 to 16, the first in reading order, 1 to
+-- 7 with its place; 11 above 512 records, their number
 pub data Refusal (d : Dialect) (s : List ℕ) : Told → Type 0 where
   is-large : 65536 < length s → Refusal d s (told too-large (length s ∷ []))
   is-wrong : {path : List ℕ} {offset : ℕ} {why : WireError} → length s ≤ 65536
-      → RefusedAt (kind.Rpc d) 0 s path offset why → Refusal d s (placed (placeAt offset path) (wireTold why))
+      → RefusedAt (d .mode) (kind.Rpc (d .edition)) 0 s path offset why
+      → Refusal d s (placed (toldAt why offset path) (wireTold why))
   has-many : {x : Rpc} → length s ≤ 65536 → IsRpc d s x → 512 < recordsIn x
       → Refusal d s (told too-many-records (recordsIn x ∷ []))
 
@@ -95,14 +97,14 @@ pub data Decodes (d : Dialect) (s : List ℕ) (words : ℕ) : Told → Type 0 wh
 
 -- ---- the RPC that a body means, and what was counted
 -- a body's records are those of the RPC that it means
-own-rpc : (d : Dialect) → ownOf (kind.Rpc d) ≡ 0
+own-rpc : (d : Dialect) → ownOf (kind.Rpc (d .edition)) ≡ 0
 unfolding ownOf
 own-rpc d = refl
 
-pub counted-records : (d : Dialect) (s : List ℕ) (n : ℕ) (x : Rpc) → counted (kind.Rpc d) s ≡ count.Records n
-    → IsRpc d s x → n ≡ recordsIn x
+pub counted-records : (d : Dialect) (s : List ℕ) (n : ℕ) (x : Rpc)
+    → counted (d .mode) (kind.Rpc (d .edition)) s ≡ count.Records n → IsRpc d s x → n ≡ recordsIn x
 counted-records d s n x e i =
-    let a = rows-length (kind.Rpc d) 0 s n e in let b = rpc-records i in omega (arith, own-rpc d)
+    let a = rows-length (d .mode) (kind.Rpc (d .edition)) 0 s n e in let b = rpc-records i in omega (arith, own-rpc d)
 
 -- where records are counted the body means an RPC with that number of records
 record Counts (d : Dialect) (s : List ℕ) (n : ℕ) : Type 0 where
@@ -110,13 +112,15 @@ record Counts (d : Dialect) (s : List ℕ) (n : ℕ) : Type 0 where
   means : IsRpc d s rpc
   all : recordsIn rpc ≡ n
 
-counts : (d : Dialect) (s : List ℕ) (n : ℕ) → Bytes s → counted (kind.Rpc d) s ≡ count.Records n → Counts d s n
+counts : (d : Dialect) (s : List ℕ) (n : ℕ) → Bytes s → counted (d .mode) (kind.Rpc (d .edition)) s ≡ count.Records n
+    → Counts d s n
 counts d s n b e =
     let x = rpc-means d s b (record { records = n; counts = e }) in
     record { rpc = x .value; means = x .means; all = sym (counted-records d s n (x .value) e (x .means)) }
 
 -- and back
-pub meant-count : {d : Dialect} {s : List ℕ} {x : Rpc} → IsRpc d s x → counted (kind.Rpc d) s ≡ count.Records (recordsIn x)
+pub meant-count : {d : Dialect} {s : List ℕ} {x : Rpc} → IsRpc d s x
+    → counted (d .mode) (kind.Rpc (d .edition)) s ≡ count.Records (recordsIn x)
 meant-count {d} {s} {x} i =
     let a = rpc-accepted d s (record { value = x; means = i }) in
     a .counts ∙ ap count.Records (counted-records d s (a .records) x (a .counts) i)
@@ -126,10 +130,12 @@ present-cond : {A : Type 0} (c : Bool) (x : A) → present (cond c (some x) none
 present-cond true x = refl
 present-cond false x = refl
 
-control-told : {d : Dialect} {s : List ℕ} {x : Rpc} → IsRpc d s x → cond (hasControl s) 1 0 ≡ present (x .control)
+control-told : {d : Dialect} {s : List ℕ} {x : Rpc} → IsRpc d s x
+    → cond (hasControl (d .mode) s) 1 0 ≡ present (x .control)
 unfolding readBack
 control-told {d} {s} {x} i =
-    sym (present-cond (hasControl s) (gather s (rowsOf (kind.Rpc d) 0 s) nothing .control))
+    sym (present-cond (hasControl (d .mode) s)
+    (gather s (rowsOf (d .mode) (kind.Rpc (d .edition)) 0 s) nothing .control))
     ∙ ap (λ (y : Rpc). present (y .control)) (read-back i)
 
 -- ---- a body is refused exactly where the scope refuses it
@@ -140,8 +146,9 @@ refusal-of d s _ why b (large h) e =
     let q : nowhere (TooLarge (length s)) ≡ why = cc in
     subst (λ (w : Placed). Refusal d s (refusalTold w)) q (is-large h)
 refusal-of d s _ why b (bad h w q) e =
-    let i = first-exactly (kind.Rpc d) s w (spotIn (kind.Rpc d) s) b .0 (q, refl) in
-    let z : record { why = w; spot = spotIn (kind.Rpc d) s } ≡ why = cc in
+    let there = spotIn (d .mode) (kind.Rpc (d .edition)) s in
+    let i = first-exactly (d .mode) (kind.Rpc (d .edition)) s w (placedAs (spotOf w) there) b .0 (q, refl) in
+    let z : standing there w ≡ why = cc in
     subst (λ (x : Placed). Refusal d s (refusalTold x)) z
     (subst (λ (x : Spot). Refusal d s (placed x (wireTold w))) (sym (i .told)) (is-wrong h (i .is)))
 refusal-of d s _ why b (many h n q l) e =
@@ -157,7 +164,7 @@ pub of-refusal : {d : Dialect} {s : List ℕ} {a : Told} → Refusal d s a
 of-refusal {d} {s} (is-large h) = (nowhere (TooLarge (length s)), records-large d s h, refl)
 of-refusal {d} {s} (is-wrong {path} {offset} {why} h i) =
     let c = first-counts (record { path = path; offset = offset; is = i; told = refl }) in (
-      record { why = why; spot = spotIn (kind.Rpc d) s },
+      standing (spotIn (d .mode) (kind.Rpc (d .edition)) s) why,
       records-wrong d s why h (c .0),
       ap (λ (x : Spot). placed x (wireTold why)) (c .1),
     )
@@ -166,10 +173,10 @@ of-refusal {d} {s} (has-many {x} h i l) =
 
 -- ---- what decode tells, exactly
 of-gate : (d : Dialect) (s : List ℕ) (words : ℕ) (r : Tested) → Bytes s → Gate d s r
-    → Decodes d s words (decodedTold (onCount (words / 20) (hasControl s) r))
+    → Decodes d s words (decodedTold (onCount (words / 20) (hasControl (d .mode) s) r))
 of-gate d s words _ b (large h) = refuses (is-large h)
 of-gate d s words _ b (bad h why e) =
-    refuses (refusal-of d s _ (record { why = why; spot = spotIn (kind.Rpc d) s }) b (bad h why e) refl)
+    refuses (refusal-of d s _ (standing (spotIn (d .mode) (kind.Rpc (d .edition)) s) why) b (bad h why e) refl)
 of-gate d s words _ b (many h n e l) = refuses (refusal-of d s _ (nowhere (TooManyRecords n)) b (many h n e l) refl)
 of-gate d s words _ b (passes h n e l) =
     let c = counts d s n b e in
@@ -177,7 +184,7 @@ of-gate d s words _ b (passes h n e l) =
     either (ltb (words / 20) n)
     (λ u. simp u (subst (λ (k : ℕ). Decodes d s words (told short-room (k ∷ []))) (c .all)
     (short w (omega (arith, c .all, ltb-true (words / 20) n u)))))
-    (λ u. simp u (subst (λ (k : ℕ). Decodes d s words (done (k ∷ cond (hasControl s) 1 0 ∷ []))) (c .all)
+    (λ u. simp u (subst (λ (k : ℕ). Decodes d s words (done (k ∷ cond (hasControl (d .mode) s) 1 0 ∷ []))) (c .all)
     (subst (λ (k : ℕ). Decodes d s words (done (recordsIn (c .rpc) ∷ k ∷ []))) (sym (control-told (c .means)))
     (reads w (omega (arith, c .all, ltb-false (words / 20) n u))))))
 
@@ -190,12 +197,12 @@ told-of : {d : Dialect} {s : List ℕ} {words : ℕ} {a : Told} → Decodes d s 
 unfolding decodeAnswer
 told-of {d} {s} {words} (refuses r) =
     let g = of-refusal r in
-    ap (λ (c : Tested). decodedTold (onCount (words / 20) (hasControl s) c)) (g .1) ∙ g .2
+    ap (λ (c : Tested). decodedTold (onCount (words / 20) (hasControl (d .mode) s) c)) (g .1) ∙ g .2
 told-of {d} {s} {words} (short {x} w l) =
-    ap (λ (c : Tested). decodedTold (onCount (words / 20) (hasControl s) c)) (records-within w)
+    ap (λ (c : Tested). decodedTold (onCount (words / 20) (hasControl (d .mode) s) c)) (records-within w)
     ∙ simp (lt-ltb (words / 20) (recordsIn x) l)
 told-of {d} {s} {words} (reads {x} w l) =
-    ap (λ (c : Tested). decodedTold (onCount (words / 20) (hasControl s) c)) (records-within w)
+    ap (λ (c : Tested). decodedTold (onCount (words / 20) (hasControl (d .mode) s) c)) (records-within w)
     ∙ simp (le-ltb (words / 20) (recordsIn x) l) (ap (λ (k : ℕ). done (recordsIn x ∷ k ∷ [])) (control-told (w .means)))
 
 decodes : (d : Dialect) (s : List ℕ) (words : ℕ) → Bytes s → Decodes d s words (decodedTold (decodeAnswer d s words))
@@ -206,89 +213,107 @@ pub decode-exactly : (d : Dialect) (s : List ℕ) (words : ℕ) (a : Told) → B
     → (decodedTold (decodeAnswer d s words) ≡ a) ↔ Decodes d s words a
 decode-exactly d s words a b = (λ e. subst (Decodes d s words) e (decodes d s words b), told-of)
 
--- counting refuses by one of 1 to 7
-text-early : (s : List ℕ) (f : Field) (n : ℕ) (why : WireError) → textCount s f n ≡ count.Refused why
-    → refusalNumber why ≤ 7
+-- counting refuses by one of 1 to 7; where groups are passed over, also of 14 to 16
+field-body : {mode : Mode} {n : ℕ} → OfField mode n → OfBody mode n
+field-body (field-low {n = n} l) = low {n = n} (omega arith)
+field-body (field-group l u) = of-group l u
+
+text-early : (mode : Mode) (s : List ℕ) (f : Field) (n : ℕ) (why : WireError) → textCount s f n ≡ count.Refused why
+    → OfBody mode (refusalNumber why)
 unfolding textCount
-text-early s f n why h =
+text-early mode s f n why h =
     either (isUtf8 (between s (f .start) (f .next))) (λ t. clash (let e = simp t at h in cc))
-    (λ t. let e = simp t at h in let w : why ≡ InvalidUtf8 (f .«tag_end») = cc in rw w (omega arith))
+    (λ t. let e = simp t at h in let w : why ≡ InvalidUtf8 (f .«tag_end») = cc in rw w (low {n = 7} (omega arith)))
 
 plus-early : (n : ℕ) (r : Counted) (why : WireError) → plus n r ≡ count.Refused why → r ≡ count.Refused why
 plus-early n (count.Records m) why h = clash (cc)
 plus-early n (count.Refused w) why h = cc
 
-role-early : (s : List ℕ) (f : Field) (r : Role) (why : WireError) → roleCount counted s f r ≡ count.Refused why
-    → ((j : Kind) (form : Form) (p : List ℕ) → r ≡ Sub j form → counted j p ≡ count.Refused why → refusalNumber why ≤ 7)
-    → refusalNumber why ≤ 7
-role-early s f Skip why h ih = clash (cc)
-role-early s f (Number figure) why h ih = clash (cc)
-role-early s f (Text slot) why h ih = text-early s f 0 why h
-role-early s f (BytesRole slot) why h ih = clash (cc)
-role-early s f (Unsigned slot) why h ih = clash (cc)
-role-early s f Topic why h ih = text-early s f 1 why h
-role-early s f MessageId why h ih = clash (cc)
-role-early s f (Sub k form) why h ih =
+role-early : (mode : Mode) (s : List ℕ) (f : Field) (r : Role) (why : WireError)
+    → roleCount (counted mode) s f r ≡ count.Refused why
+    → ((j : Kind) (form : Form) (p : List ℕ) → r ≡ Sub j form → counted mode j p ≡ count.Refused why
+    → OfBody mode (refusalNumber why))
+    → OfBody mode (refusalNumber why)
+role-early mode s f Skip why h ih = clash (cc)
+role-early mode s f (Number figure) why h ih = clash (cc)
+role-early mode s f (Text slot) why h ih = text-early mode s f 0 why h
+role-early mode s f (BytesRole slot) why h ih = clash (cc)
+role-early mode s f (Unsigned slot) why h ih = clash (cc)
+role-early mode s f Topic why h ih = text-early mode s f 1 why h
+role-early mode s f MessageId why h ih = clash (cc)
+role-early mode s f (Sub k form) why h ih =
     ih k form (between s (f .start) (f .next)) refl
-    (plus-early (ownOf k) (counted k (between s (f .start) (f .next))) why h)
+    (plus-early (ownOf k) (counted mode k (between s (f .start) (f .next))) why h)
 
 -- the refusals that a walk ends in
-data Ending : Fields → Type 0 where
-  at-end : Ending end
-  early : {why : WireError} → refusalNumber why ≤ 6 → Ending (refused why)
-  after : {f : Field} {w : Fields} → Ending w → Ending (f then w)
+data Ending (mode : Mode) : Fields → Type 0 where
+  at-end : Ending mode end
+  early : {why : WireError} → OfField mode (refusalNumber why) → Ending mode (refused why)
+  after : {f : Field} {w : Fields} → Ending mode w → Ending mode (f then w)
 
-first-early : (s : List ℕ) (k : Kind) (f : Field) (w : Fields) (why : WireError) (r : Counted)
-    → roleCount counted s f (roleOf k (f .field) (f .«wire_type»)) ≡ r
-    → andThen r (countAlong counted k s w) ≡ count.Refused why
-    → (countAlong counted k s w ≡ count.Refused why → refusalNumber why ≤ 7)
-    → ((j : Kind) (p : List ℕ) → rank j < rank k → counted j p ≡ count.Refused why → refusalNumber why ≤ 7)
-    → refusalNumber why ≤ 7
-first-early s k f w why (count.Records n) q g rest ih = rest (plus-early n (countAlong counted k s w) why g)
-first-early s k f w why (count.Refused v) q g rest ih =
+first-early : (mode : Mode) (s : List ℕ) (k : Kind) (f : Field) (w : Fields) (why : WireError) (r : Counted)
+    → roleCount (counted mode) s f (roleOf k (f .field) (f .«wire_type»)) ≡ r
+    → andThen r (countAlong (counted mode) k s w) ≡ count.Refused why
+    → (countAlong (counted mode) k s w ≡ count.Refused why → OfBody mode (refusalNumber why))
+    → ((j : Kind) (p : List ℕ) → rank j < rank k → counted mode j p ≡ count.Refused why
+    → OfBody mode (refusalNumber why))
+    → OfBody mode (refusalNumber why)
+first-early mode s k f w why (count.Records n) q g rest ih = rest (plus-early n (countAlong (counted mode) k s w) why g)
+first-early mode s k f w why (count.Refused v) q g rest ih =
     let e : v ≡ why = cc in
-    role-early s f (roleOf k (f .field) (f .«wire_type»)) why (q ∙ ap count.Refused e)
+    role-early mode s f (roleOf k (f .field) (f .«wire_type»)) why (q ∙ ap count.Refused e)
     (λ j form p u z. ih j p (sub-rank k j form (f .field) (f .«wire_type») u) z)
 
-then-early : (s : List ℕ) (k : Kind) (w : Fields) (why : WireError) → Ending w
-    → countAlong counted k s w ≡ count.Refused why
-    → ((j : Kind) (p : List ℕ) → rank j < rank k → counted j p ≡ count.Refused why → refusalNumber why ≤ 7)
-    → refusalNumber why ≤ 7
-then-early s k _ why at-end h ih = clash (cc)
-then-early s k _ why (early {why = w} e) h ih = let q : w ≡ why = cc in rw (← q) (omega arith)
-then-early s k _ why (after {f = f} {w = w} x) h ih =
-    first-early s k f w why (roleCount counted s f (roleOf k (f .field) (f .«wire_type»))) refl h
-    (λ g. then-early s k w why x g ih) ih
+then-early : (mode : Mode) (s : List ℕ) (k : Kind) (w : Fields) (why : WireError) → Ending mode w
+    → countAlong (counted mode) k s w ≡ count.Refused why
+    → ((j : Kind) (p : List ℕ) → rank j < rank k → counted mode j p ≡ count.Refused why
+    → OfBody mode (refusalNumber why))
+    → OfBody mode (refusalNumber why)
+then-early mode s k _ why at-end h ih = clash (cc)
+then-early mode s k _ why (early {why = w} e) h ih = let q : w ≡ why = cc in rw (← q) (field-body e)
+then-early mode s k _ why (after {f = f} {w = w} x) h ih =
+    first-early mode s k f w why (roleCount (counted mode) s f (roleOf k (f .field) (f .«wire_type»))) refl h
+    (λ g. then-early mode s k w why x g ih) ih
 
-ending : (s : List ℕ) → Ending (fieldsOf s)
-ending s = along s (λ (at : ℕ) (w : Fields). Ending w) (λ at. at-end) (λ at why e. early (field-early s at why e))
+ending : (mode : Mode) (s : List ℕ) → Ending mode (fieldsOf mode s)
+ending mode s = along mode s (λ (at : ℕ) (w : Fields). Ending mode w) (λ at. at-end)
+    (λ at why e. early (field-early mode s at why e))
     (λ at f st e r. after r) 0
 
-early-all : (k : Kind) (s : List ℕ) (why : WireError) → counted k s ≡ count.Refused why → refusalNumber why ≤ 7
-early-all =
-    by-rank (λ k. (s : List ℕ) (why : WireError) → counted k s ≡ count.Refused why → refusalNumber why ≤ 7)
-    (λ k ih s why h. then-early s k (fieldsOf s) why (ending s) (sym (count-along k s) ∙ h) (λ j p q z. ih j q p why z))
+early-all : (mode : Mode) (k : Kind) (s : List ℕ) (why : WireError) → counted mode k s ≡ count.Refused why
+    → OfBody mode (refusalNumber why)
+early-all mode =
+    by-rank (λ k. (s : List ℕ) (why : WireError) → counted mode k s ≡ count.Refused why
+    → OfBody mode (refusalNumber why))
+    (λ k ih s why h. then-early mode s k (fieldsOf mode s) why (ending mode s) (sym (count-along mode k s) ∙ h)
+    (λ j p q z. ih j q p why z))
 
-pub counted-early : (d : Dialect) (s : List ℕ) (why : WireError) → counted (kind.Rpc d) s ≡ count.Refused why
-    → refusalNumber why ≤ 7
-counted-early d s why h = early-all (kind.Rpc d) s why h
+pub counted-early : (d : Dialect) (s : List ℕ) (why : WireError)
+    → counted (d .mode) (kind.Rpc (d .edition)) s ≡ count.Refused why → OfBody (d .mode) (refusalNumber why)
+counted-early d s why h = early-all (d .mode) (kind.Rpc (d .edition)) s why h
 
--- a body's refusals are 10, 1 to 7 and 11
-pub data Gated : ℕ → Type 0 where
-  large-number : Gated too-large
-  early-number : {n : ℕ} → 0 < n → n ≤ 7 → Gated n
-  many-number : Gated too-many-records
+-- 10 to 12 are none of them
+body-bound : {mode : Mode} {n : ℕ} → OfBody mode n → (n ≢ 10) × (n ≢ 11) × (n ≢ 12)
+body-bound (low l) = (λ e. omega arith, λ e. omega arith, λ e. omega arith)
+body-bound (of-group l u) = (λ e. omega arith, λ e. omega arith, λ e. omega arith)
 
-pub refusal-gated : {d : Dialect} {s : List ℕ} {a : Told} → Refusal d s a → Gated (a .number)
+-- a body's refusals are 10, 1 to 7 and, where groups are passed over, 14 to 16, and 11
+pub data Gated (mode : Mode) : ℕ → Type 0 where
+  large-number : Gated mode too-large
+  early-number : {n : ℕ} → 0 < n → OfBody mode n → Gated mode n
+  many-number : Gated mode too-many-records
+
+pub refusal-gated : {d : Dialect} {s : List ℕ} {a : Told} → Refusal d s a → Gated (d .mode) (a .number)
 refusal-gated (is-large h) = large-number
-refusal-gated {d} {s} (is-wrong {path} {offset} {why} h i) = early-number (wire-range why .0) (refused-early i)
+refusal-gated (is-wrong {why = why} h i) = early-number (wire-range why .0) (refused-early i)
 refusal-gated (has-many h i l) = many-number
 
--- so 0, 12 and all above are none of them
-pub gated-bound : {n : ℕ} → Gated n → (0 < n) × (n ≤ 11)
-gated-bound large-number = (omega arith, omega arith)
-gated-bound (early-number p q) = (p, omega arith)
-gated-bound many-number = (omega arith, omega arith)
+-- so 0, 12, 13 and all above 16 are none of them
+pub gated-bound : {mode : Mode} {n : ℕ} → Gated mode n → (0 < n) × ((n ≢ 12) × (n ≢ 13) × (n ≤ 16))
+gated-bound large-number = (omega arith, (λ e. omega arith, λ e. omega arith, omega arith))
+gated-bound (early-number p (low q)) = (p, (λ e. omega arith, λ e. omega arith, omega arith))
+gated-bound (early-number p (of-group l u)) = (p, (λ e. omega arith, λ e. omega arith, u))
+gated-bound many-number = (omega arith, (λ e. omega arith, λ e. omega arith, omega arith))
 
 -- a body that is within capacity is not refused
 pub refusal-within : {d : Dialect} {s : List ℕ} {a : Told} {x : Rpc} → Refusal d s a → Within d s x → ⊥
@@ -357,12 +382,13 @@ told-records (Records m b) n c e = (
   ap (λ (k : ℕ). Records k b) (ap (λ (t : Told). t .first) e),
   ap (λ (t : Told). t .second) e,
 )
-told-records (Refused r) n c e = let z = wire-range (r .why) .0 in absurd (omega (arith, ap (λ (t : Told). t .number) e))
+told-records (Refused r) n c e = let z = wire-range (r .why) .0 in
+    absurd (omega (arith, ap (λ (t : Told). t .number) e))
 told-records (Room m) n c e = absurd (omega (arith, ap (λ (t : Told). t .number) e))
 
 gate-reads : (d : Dialect) (s : List ℕ) (room : ℕ) (r : Tested) (n : ℕ) (b : Bool) → Gate d s r
-    → onCount room (hasControl s) r ≡ Records n b → (counted (kind.Rpc d) s ≡ count.Records n) × (n ≤ room)
-    × (b ≡ hasControl s)
+    → onCount room (hasControl (d .mode) s) r ≡ Records n b
+    → (counted (d .mode) (kind.Rpc (d .edition)) s ≡ count.Records n) × (n ≤ room) × (b ≡ hasControl (d .mode) s)
 gate-reads d s room _ n b (large h) e = clash (cc)
 gate-reads d s room _ n b (bad h why q) e = clash (cc)
 gate-reads d s room _ n b (many h m q l) e = clash (cc)
@@ -372,7 +398,7 @@ gate-reads d s room _ n b (passes h m q l) e =
     (q ∙ ap count.Records y, omega (arith, ltb-false room m u), cc))
 
 answer-reads : (d : Dialect) (s : List ℕ) (words n : ℕ) (b : Bool) → decodeAnswer d s words ≡ Records n b
-    → (counted (kind.Rpc d) s ≡ count.Records n) × (n ≤ words / 20) × (b ≡ hasControl s)
+    → (counted (d .mode) (kind.Rpc (d .edition)) s ≡ count.Records n) × (n ≤ words / 20) × (b ≡ hasControl (d .mode) s)
 unfolding decodeAnswer
 answer-reads d s words n b e = gate-reads d s (words / 20) (bodyRecords d s) n b (gate d s) e
 
@@ -388,13 +414,16 @@ unfolding decodeTable
 table-means d s t n c x e i =
     let k = told-records (decodeAnswer d s (length t)) n c e in
     let g = answer-reads d s (length t) n (k .0) (k .1) in
-    let l : length (rowsOf (kind.Rpc d) 0 s) ≡ n = rows-length (kind.Rpc d) 0 s n (g .0) ∙ omega (arith, own-rpc d) in
-    let room : length (rowsOf (kind.Rpc d) 0 s) * 20 ≤ length t = omega (arith, g .1) in
-    let rows : rowsIn (leaves d s t (decodeAnswer d s (length t))) 0 n ≡ rowsOf (kind.Rpc d) 0 s =
+    let l : length (rowsOf (d .mode) (kind.Rpc (d .edition)) 0 s) ≡ n =
+    rows-length (d .mode) (kind.Rpc (d .edition)) 0 s n (g .0) ∙ omega (arith, own-rpc d) in
+    let room : length (rowsOf (d .mode) (kind.Rpc (d .edition)) 0 s) * 20 ≤ length t = omega (arith, g .1) in
+    let rows : rowsIn (leaves d s t (decodeAnswer d s (length t))) 0 n ≡ rowsOf (d .mode) (kind.Rpc (d .edition)) 0 s =
     ap (λ (r : Decoded). rowsIn (leaves d s t r) 0 n) (k .1)
-    ∙ ap (rowsIn (sets t 0 (wordsOfAll (rowsOf (kind.Rpc d) 0 s))) 0) (sym l)
-    ∙ table-back t (rowsOf (kind.Rpc d) 0 s) (all-records (kind.Rpc d) 0 s) room in
-    let control : eqb c 1 ≡ hasControl s = ap (λ (j : ℕ). eqb j 1) (sym (k .2)) ∙ control-read (k .0) ∙ g .2 in
+    ∙ ap (rowsIn (sets t 0 (wordsOfAll (rowsOf (d .mode) (kind.Rpc (d .edition)) 0 s))) 0) (sym l)
+    ∙ table-back t (rowsOf (d .mode) (kind.Rpc (d .edition)) 0 s)
+    (all-records (d .mode) (kind.Rpc (d .edition)) 0 s) room in
+    let control : eqb c 1 ≡ hasControl (d .mode) s = ap (λ (j : ℕ). eqb j 1) (sym (k .2)) ∙ control-read (k .0)
+    ∙ g .2 in
     ap₂ (readBack s) rows control ∙ read-back i
 
 -- and only those records were written: the words after them are as they were
@@ -404,9 +433,10 @@ unfolding decodeTable
 table-rest d s t n c e =
     let k = told-records (decodeAnswer d s (length t)) n c e in
     let g = answer-reads d s (length t) n (k .0) (k .1) in
-    let ws = wordsOfAll (rowsOf (kind.Rpc d) 0 s) in
+    let ws = wordsOfAll (rowsOf (d .mode) (kind.Rpc (d .edition)) 0 s) in
     let l : length ws ≡ n * 20 =
-    all-length (rowsOf (kind.Rpc d) 0 s) ∙ omega (arith, own-rpc d, rows-length (kind.Rpc d) 0 s n (g .0)) in
+    all-length (rowsOf (d .mode) (kind.Rpc (d .edition)) 0 s)
+    ∙ omega (arith, own-rpc d, rows-length (d .mode) (kind.Rpc (d .edition)) 0 s n (g .0)) in
     let z : 0 + length ws ≡ n * 20 = omega arith in
     let left : leaves d s t (decodeAnswer d s (length t)) ≡ sets t 0 ws = ap (leaves d s t) (k .1) in (
       ap length left ∙ length-sets t 0 ws,
@@ -417,9 +447,10 @@ table-rest d s t n c e =
 -- ---- refusals; that one leaves the table as it was is `refused-decode` of message
 -- 10 is given exactly to a body above 65,536 bytes, with its length
 large-gate : (d : Dialect) (s : List ℕ) (room n : ℕ) (r : Tested) → Gate d s r
-    → decodedTold (onCount room (hasControl s) r) ≡ told too-large (n ∷ []) → (n ≡ length s) × (65536 < length s)
+    → decodedTold (onCount room (hasControl (d .mode) s) r) ≡ told too-large (n ∷ []) → (n ≡ length s)
+    × (65536 < length s)
 large-gate d s room n _ (large h) e = (sym (ap (λ (t : Told). t .first) e), h)
-large-gate d s room n _ (bad h why q) e = let l = counted-early d s why q in
+large-gate d s room n _ (bad h why q) e = let l = body-bound (counted-early d s why q) in
     absurd (omega (arith, ap (λ (t : Told). t .number) e))
 large-gate d s room n _ (many h m q l) e = absurd (omega (arith, ap (λ (t : Told). t .number) e))
 large-gate d s room n _ (passes h m q l) e =
@@ -438,26 +469,28 @@ too-large-exactly d s words n = (
   λ p. told-of (refuses (is-large (p .1))) ∙ ap (λ (k : ℕ). told too-large (k ∷ [])) (sym (p .0)),
 )
 
--- 1 to 7 are given exactly to a body of at most 65,536 bytes that means no RPC
+-- 1 to 7 and, where groups are passed over, 14 to 16 are given exactly to a body of at most 65,536 bytes that means no
+-- RPC
 pub record Wrong (d : Dialect) (s : List ℕ) : Type 0 where
   pub small : length s ≤ 65536
   pub meaningless : (x : Rpc) → IsRpc d s x → ⊥
 
 pub wrong-exactly : (d : Dialect) (s : List ℕ) (words : ℕ) → Bytes s
-    → ((0 < decodedTold (decodeAnswer d s words) .number) × (decodedTold (decodeAnswer d s words) .number ≤ 7))
+    → ((0 < decodedTold (decodeAnswer d s words) .number)
+    × OfBody (d .mode) (decodedTold (decodeAnswer d s words) .number))
     ↔ Wrong d s
 wrong-exactly d s words b = (λ p. forth (decodes d s words b) (p .0) (p .1), λ w. back w (decodes d s words b))
   where
-    forth : {a : Told} → Decodes d s words a → 0 < a .number → a .number ≤ 7 → Wrong d s
-    forth (refuses (is-large h)) p q = absurd (omega arith)
+    forth : {a : Told} → Decodes d s words a → 0 < a .number → OfBody (d .mode) (a .number) → Wrong d s
+    forth (refuses (is-large h)) p q = absurd (body-bound q .0 refl)
     forth (refuses (is-wrong {path} {offset} {why} h i)) p q =
         let c = first-counts (record { path = path; offset = offset; is = i; told = refl }) in
         record { small = h; meaningless = λ x j. clash (let z = meant-count j in let y = c .0 in cc) }
-    forth (refuses (has-many h i l)) p q = absurd (omega arith)
-    forth (short w l) p q = absurd (omega arith)
+    forth (refuses (has-many h i l)) p q = absurd (body-bound q .1 refl)
+    forth (short w l) p q = absurd (body-bound q .2 refl)
     forth (reads w l) p q = absurd (omega arith)
 
-    back : {a : Told} → Wrong d s → Decodes d s words a → (0 < a .number) × (a .number ≤ 7)
+    back : {a : Told} → Wrong d s → Decodes d s words a → (0 < a .number) × OfBody (d .mode) (a .number)
     back w (refuses (is-large h)) = absurd (omega (arith, w .small))
     back w (refuses (is-wrong {path} {offset} {why} h i)) = (wire-range why .0, refused-early i)
     back w (refuses (has-many {x} h i l)) = absurd (w .meaningless x i)
@@ -467,24 +500,25 @@ wrong-exactly d s words b = (λ p. forth (decodes d s words b) (p .0) (p .1), λ
 -- and by this reason, at this place, exactly where its first refusal in reading order has them: the test of a body that
 -- every call makes
 place-of : (d : Dialect) (s : List ℕ) (why : WireError) (spot : Spot) (r : Tested) → Bytes s → length s ≤ 65536
-    → refusalNumber why ≤ 7 → Gate d s r → r ≡ tested.Refused (record { why = why; spot = spot })
-    → First (kind.Rpc d) s why spot
+    → OfBody (d .mode) (refusalNumber why) → Gate d s r → r ≡ tested.Refused (record { why = why; spot = spot })
+    → First (d .mode) (kind.Rpc (d .edition)) s why spot
 place-of d s why spot _ b h n (large l) e = absurd (omega arith)
 place-of d s why spot _ b h n (bad l w q) e =
-    let x : _≡_ {A = Placed} (record { why = w; spot = spotIn (kind.Rpc d) s }) (record { why = why; spot = spot }) =
-    cc in
+    let there = spotIn (d .mode) (kind.Rpc (d .edition)) s in
+    let x : _≡_ {A = Placed} (standing there w) (record { why = why; spot = spot }) = cc in
     let z : w ≡ why = ap (λ (r : Placed). r .why) x in
-    let y : spotIn (kind.Rpc d) s ≡ spot = ap (λ (r : Placed). r .spot) x in
-    first-exactly (kind.Rpc d) s why spot b .0 (q ∙ ap count.Refused z, y)
+    let y : placedAs (spotOf w) there ≡ spot = ap (λ (r : Placed). r .spot) x in
+    first-exactly (d .mode) (kind.Rpc (d .edition)) s why spot b .0
+    (q ∙ ap count.Refused z, ap (λ (a : WireError). placedAs (spotOf a) there) (sym z) ∙ y)
 place-of d s why spot _ b h n (many l m q g) e =
     let x : nowhere (TooManyRecords m) ≡ record { why = why; spot = spot } = cc in
     let z : TooManyRecords m ≡ why = ap (λ (r : Placed). r .why) x in
-    absurd (omega (arith, subst (λ (w : WireError). refusalNumber w ≤ 7) (sym z) n))
+    absurd (body-bound n .1 (ap refusalNumber (sym z)))
 place-of d s why spot _ b h n (passes l m q g) e = clash (cc)
 
 pub place-exactly : (d : Dialect) (s : List ℕ) (why : WireError) (spot : Spot) → Bytes s → length s ≤ 65536
-    → ((bodyRecords d s ≡ tested.Refused (record { why = why; spot = spot })) × (refusalNumber why ≤ 7))
-    ↔ First (kind.Rpc d) s why spot
+    → ((bodyRecords d s ≡ tested.Refused (record { why = why; spot = spot })) × OfBody (d .mode) (refusalNumber why))
+    ↔ First (d .mode) (kind.Rpc (d .edition)) s why spot
 place-exactly d s why spot b h = (
   λ p. place-of d s why spot (bodyRecords d s) b h (p .1) (gate d s) (p .0),
   λ i. let c = first-counts i in (
@@ -505,7 +539,7 @@ pub record TooMany (d : Dialect) (s : List ℕ) (n : ℕ) : Type 0 where
 many-of : {d : Dialect} {s : List ℕ} {words : ℕ} {a : Told} (n : ℕ) → Decodes d s words a
     → a ≡ told too-many-records (n ∷ []) → TooMany d s n
 many-of n (refuses (is-large h)) e = absurd (omega (arith, ap (λ (t : Told). t .number) e))
-many-of n (refuses (is-wrong h i)) e = let l = refused-early i in
+many-of n (refuses (is-wrong h i)) e = let l = body-bound (refused-early i) in
     absurd (omega (arith, ap (λ (t : Told). t .number) e))
 many-of n (refuses (has-many {x} h i l)) e =
     let z : n ≡ recordsIn x = sym (ap (λ (t : Told). t .first) e) in
@@ -532,7 +566,7 @@ pub record TooFewRows (d : Dialect) (s : List ℕ) (words n : ℕ) : Type 0 wher
 short-of : {d : Dialect} {s : List ℕ} {words : ℕ} {a : Told} (n : ℕ) → Decodes d s words a
     → a ≡ told short-room (n ∷ []) → TooFewRows d s words n
 short-of n (refuses (is-large h)) e = absurd (omega (arith, ap (λ (t : Told). t .number) e))
-short-of n (refuses (is-wrong h i)) e = let l = refused-early i in
+short-of n (refuses (is-wrong h i)) e = let l = body-bound (refused-early i) in
     absurd (omega (arith, ap (λ (t : Told). t .number) e))
 short-of n (refuses (has-many h i l)) e = absurd (omega (arith, ap (λ (t : Told). t .number) e))
 short-of n (short {x} w l) e =

@@ -1,7 +1,8 @@
--- Laws between the editions. Where no control of a body has a length-delimited field 5, every dialect reads it alike,
--- whatever its bytes are: refusals and their places, the number of records, the records, and what `decode` leaves. And
--- what 1.2 takes 1.1 takes, too: there it means the same RPC without IDONTWANTs. A message's own reading is the same in
--- each, since it has no dialect to depend on: neither its kind, nor `messageAt`, `idParts` and `signOf`, take one.
+-- Laws between the editions, in either mode. Where no control of a body has a length-delimited field 5, both editions
+-- read it alike, whatever its bytes are: refusals and their places, the number of records, the records, and what
+-- `decode` leaves. And what 1.2 takes 1.1 takes, too: there it means the same RPC without IDONTWANTs. A message's own
+-- reading is the same in each, since it has no edition to depend on: neither its kind, nor `messageAt`, `idParts` and
+-- `signOf`, take one.
 use Prim.Native.Nat.{ℕ, _+_, _/_, _≤_}
 use mathlib.Core.Path.{_≡_, refl, sym, ap, ap₂, subst, _∙_}
 use mathlib.Core.Bool.{Bool, true, false, cond, _&&_, _||_}
@@ -12,13 +13,13 @@ use lib.ListN.{length}
 use lib.Seq.{sets}
 use lib.Dec.{eqb}
 use borrow.Author.Tests.{eqb-true}
+use Rattle.basis.specs.declared.Mode.{Mode}
 use Rattle.basis.specs.declared.Edition.{Edition}
 use Rattle.basis.specs.declared.Edition.the-variants.{V11, V12}
-use Rattle.basis.specs.declared.Dialect.{Dialect}
 use Rattle.basis.specs.Dialect.{spoken}
 use Rattle.basis.specs.declared.Spot.{Spot}
 use Rattle.basis.specs.Spot.{inside, orElse}
-use Rattle.basis.specs.Cases.{either, clash, both}
+use Rattle.basis.specs.Cases.{either, both, neither}
 use Rattle.protobuf.specs.declared.Field.{Field}
 use Rattle.protobuf.specs.declared.WireError.{WireError}
 use Rattle.protobuf.specs.declared.Checked.the-variants.{Fine}
@@ -51,19 +52,15 @@ use Rattle.meaning.specs.Size.{someRecords, recordsIn}
 use Rattle.meaning.specs.Decoded.{Within}
 
 -- ---- whether a length-delimited field 3 of a body, a control, has a length-delimited field 5
-abbrev pub declinesAlong : List ℕ → Fields → Bool
-declinesAlong s end = false
-declinesAlong s (refused why) = false
-declinesAlong s (f then w) = isBytes 3 f && hasField 5 (valueIn s f) || declinesAlong s w
+abbrev pub declinesAlong : Mode → List ℕ → Fields → Bool
+declinesAlong mode s end = false
+declinesAlong mode s (refused why) = false
+declinesAlong mode s (f then w) = isBytes 3 f && hasField mode 5 (valueIn s f) || declinesAlong mode s w
 
-unfoldable pub declines : List ℕ → Bool
-declines s = declinesAlong s (fieldsOf s)
+unfoldable pub declines : Mode → List ℕ → Bool
+declines mode s = declinesAlong mode s (fieldsOf mode s)
 
-pub neither : (a b : Bool) → a || b ≡ false → (a ≡ false) × (b ≡ false)
-neither true b h = clash (cc)
-neither false b h = (refl, h)
-
--- ---- the roles of fields in two dialects
+-- ---- the roles of fields in two editions
 -- what an edition adds are fields 5, and they are length-delimited
 added-skipped : (e : Edition) (n : ℕ) → eqb n 5 ≡ false → rowFrom 5 (addedIn e) n ≡ Skip
 added-skipped V11 n t = refl
@@ -73,12 +70,12 @@ added-long : (e : Edition) → Rows (λ n r. isVarint r ≡ false) 5 (addedIn e)
 added-long V11 = tt
 added-long V12 = (refl, tt)
 
-control-long : (d : Dialect) (n : ℕ) → isVarint (rowOf (kind.ControlMessage d) n) ≡ false
+control-long : (d : Edition) (n : ℕ) → isVarint (rowOf (kind.ControlMessage d) n) ≡ false
 control-long d n =
     each-row (λ m r. isVarint r ≡ false) (λ m. refl) 1 (table (kind.ControlMessage d))
-    (refl, (refl, (refl, (refl, added-long (d .edition))))) n
+    (refl, (refl, (refl, (refl, added-long d)))) n
 
-rpc-long : (d : Dialect) (n : ℕ) → isVarint (rowOf (kind.Rpc d) n) ≡ false
+rpc-long : (d : Edition) (n : ℕ) → isVarint (rowOf (kind.Rpc d) n) ≡ false
 rpc-long d n =
     each-row (λ m r. isVarint r ≡ false) (λ m. refl) 1 (table (kind.Rpc d)) (refl, (refl, (refl, tt))) n
 
@@ -90,22 +87,22 @@ same-role j k n type p q h =
     either (eqb type 2) (λ t. simp (t, p, q) (h t))
     (λ t. either (eqb type 0) (λ u. simp (t, u, p, q)) (λ u. simp (t, u)))
 
-control-role : (d e : Dialect) (n type : ℕ) → eqb type 2 && eqb n 5 ≡ false
+control-role : (d e : Edition) (n type : ℕ) → eqb type 2 && eqb n 5 ≡ false
     → roleOf (kind.ControlMessage d) n type ≡ roleOf (kind.ControlMessage e) n type
 control-role d e n type h =
     same-role (kind.ControlMessage d) (kind.ControlMessage e) n type (control-long d n) (control-long e n)
     (λ t. let u : eqb n 5 ≡ false = simp t at h in
     ap (λ (r : Role). cond (eqb n 1) (Sub kind.ControlIHave Anew) (cond (eqb n 2) (Sub kind.ControlIWant Anew)
     (cond (eqb n 3) (Sub kind.ControlGraft Anew) (cond (eqb n 4) (Sub kind.ControlPrune Anew) r))))
-    (added-skipped (d .edition) n u ∙ sym (added-skipped (e .edition) n u)))
+    (added-skipped d n u ∙ sym (added-skipped e n u)))
 
-rpc-role : (d e : Dialect) (n type : ℕ) → eqb type 2 && eqb n 3 ≡ false
+rpc-role : (d e : Edition) (n type : ℕ) → eqb type 2 && eqb n 3 ≡ false
     → roleOf (kind.Rpc d) n type ≡ roleOf (kind.Rpc e) n type
 rpc-role d e n type h =
     same-role (kind.Rpc d) (kind.Rpc e) n type (rpc-long d n) (rpc-long e n)
     (λ t. let u : eqb n 3 ≡ false = simp t at h in simp u)
 
-rpc-control : (d : Dialect) (f : Field) → isBytes 3 f ≡ true
+rpc-control : (d : Edition) (f : Field) → isBytes 3 f ≡ true
     → roleOf (kind.Rpc d) (f .field) (f .«wire_type») ≡ Sub (kind.ControlMessage d) Merged
 unfolding roleOf
 rpc-control d f h =
@@ -113,11 +110,11 @@ rpc-control d f h =
     rw (eqb-true (f .«wire_type») 2 (t .0), eqb-true (f .field) 3 (t .1))
 
 -- ---- what goes along the fields of a message by their roles
-module _ {A : Type 0} (along : Kind → Fields → A) (step : Field → Role → A → A)
+module _ (mode : Mode) {A : Type 0} (along : Kind → Fields → A) (step : Field → Role → A → A)
     (steps : (k : Kind) (f : Field) (w : Fields)
     → along k (f then w) ≡ step f (roleOf k (f .field) (f .«wire_type»)) (along k w))
     (ends : (j k : Kind) → along j end ≡ along k end)
-    (stops : (j k : Kind) (why : WireError) → along j (refused why) ≡ along k (refused why)) (d e : Dialect) where
+    (stops : (j k : Kind) (why : WireError) → along j (refused why) ≡ along k (refused why)) (d e : Edition) where
   pub same-control : (w : Fields) → hasAlong 5 w ≡ false
       → along (kind.ControlMessage d) w ≡ along (kind.ControlMessage e) w
   same-control end h = ends (kind.ControlMessage d) (kind.ControlMessage e)
@@ -128,102 +125,116 @@ module _ {A : Type 0} (along : Kind → Fields → A) (step : Field → Role →
       ∙ ap₂ (step f) (control-role d e (f .field) (f .«wire_type») (n .0)) (same-control w (n .1))
       ∙ sym (steps (kind.ControlMessage e) f w)
 
-  pub same-rpc : (s : List ℕ) → ((f : Field) (x : A) → hasField 5 (valueIn s f) ≡ false
+  pub same-rpc : (s : List ℕ) → ((f : Field) (x : A) → hasField mode 5 (valueIn s f) ≡ false
       → step f (Sub (kind.ControlMessage d) Merged) x ≡ step f (Sub (kind.ControlMessage e) Merged) x)
-      → (w : Fields) → declinesAlong s w ≡ false → along (kind.Rpc d) w ≡ along (kind.Rpc e) w
+      → (w : Fields) → declinesAlong mode s w ≡ false → along (kind.Rpc d) w ≡ along (kind.Rpc e) w
   same-rpc s sub end h = ends (kind.Rpc d) (kind.Rpc e)
   same-rpc s sub (refused why) h = stops (kind.Rpc d) (kind.Rpc e) why
   same-rpc s sub (f then w) h =
-      let n = neither (isBytes 3 f && hasField 5 (valueIn s f)) (declinesAlong s w) h in
+      let n = neither (isBytes 3 f && hasField mode 5 (valueIn s f)) (declinesAlong mode s w) h in
       let ih = same-rpc s sub w (n .1) in
       steps (kind.Rpc d) f w
       ∙ either (isBytes 3 f)
-      (λ t. let u : hasField 5 (valueIn s f) ≡ false = simp t at (n .0) in
+      (λ t. let u : hasField mode 5 (valueIn s f) ≡ false = simp t at (n .0) in
       ap₂ (step f) (rpc-control d f t) ih ∙ sub f (along (kind.Rpc e) w) u
       ∙ ap (λ (r : Role). step f r (along (kind.Rpc e) w)) (sym (rpc-control e f t)))
       (λ t. ap₂ (step f) (rpc-role d e (f .field) (f .«wire_type») t) ih)
       ∙ sym (steps (kind.Rpc e) f w)
 
 -- ---- counting, the place of a refusal, and the records
-control-counted : (d e : Dialect) (p : List ℕ) → hasField 5 p ≡ false
-    → counted (kind.ControlMessage d) p ≡ counted (kind.ControlMessage e) p
+control-counted : (mode : Mode) (d e : Edition) (p : List ℕ) → hasField mode 5 p ≡ false
+    → counted mode (kind.ControlMessage d) p ≡ counted mode (kind.ControlMessage e) p
 unfolding hasField
-control-counted d e p h =
-    count-along (kind.ControlMessage d) p
-    ∙ same-control (λ k w. countAlong counted k p w) (λ f r x. andThen (roleCount counted p f r) x) (λ k f w. refl)
-    (λ j k. refl) (λ j k why. refl) d e (fieldsOf p) h
-    ∙ sym (count-along (kind.ControlMessage e) p)
+control-counted mode d e p h =
+    count-along mode (kind.ControlMessage d) p
+    ∙ same-control mode (λ k w. countAlong (counted mode) k p w) (λ f r x. andThen (roleCount (counted mode) p f r) x)
+    (λ k f w. refl)
+    (λ j k. refl) (λ j k why. refl) d e (fieldsOf mode p) h
+    ∙ sym (count-along mode (kind.ControlMessage e) p)
 
-pub same-counted : (d e : Dialect) (s : List ℕ) → declines s ≡ false → counted (kind.Rpc d) s ≡ counted (kind.Rpc e) s
+pub same-counted : (mode : Mode) (d e : Edition) (s : List ℕ) → declines mode s ≡ false
+    → counted mode (kind.Rpc d) s ≡ counted mode (kind.Rpc e) s
 unfolding declines ownOf
-same-counted d e s h =
-    count-along (kind.Rpc d) s
-    ∙ same-rpc (λ k w. countAlong counted k s w) (λ f r x. andThen (roleCount counted s f r) x) (λ k f w. refl)
+same-counted mode d e s h =
+    count-along mode (kind.Rpc d) s
+    ∙ same-rpc mode (λ k w. countAlong (counted mode) k s w) (λ f r x. andThen (roleCount (counted mode) s f r) x)
+    (λ k f w. refl)
     (λ j k. refl) (λ j k why. refl) d e s
-    (λ f x t. ap (λ (c : Counted). andThen (plus 0 c) x) (control-counted d e (valueIn s f) t)) (fieldsOf s) h
-    ∙ sym (count-along (kind.Rpc e) s)
+    (λ f x t. ap (λ (c : Counted). andThen (plus 0 c) x) (control-counted mode d e (valueIn s f) t)) (fieldsOf mode s) h
+    ∙ sym (count-along mode (kind.Rpc e) s)
 
-control-spot : (d e : Dialect) (p : List ℕ) → hasField 5 p ≡ false
-    → spotIn (kind.ControlMessage d) p ≡ spotIn (kind.ControlMessage e) p
+control-spot : (mode : Mode) (d e : Edition) (p : List ℕ) → hasField mode 5 p ≡ false
+    → spotIn mode (kind.ControlMessage d) p ≡ spotIn mode (kind.ControlMessage e) p
 unfolding hasField
-control-spot d e p h =
-    spot-along (kind.ControlMessage d) p
-    ∙ same-control (λ k w. spotAlong spotIn k p w) (λ f r x. orElse (roleSpot spotIn p f r) x) (λ k f w. refl)
-    (λ j k. refl) (λ j k why. refl) d e (fieldsOf p) h
-    ∙ sym (spot-along (kind.ControlMessage e) p)
+control-spot mode d e p h =
+    spot-along mode (kind.ControlMessage d) p
+    ∙ same-control mode (λ k w. spotAlong (spotIn mode) k p w) (λ f r x. orElse (roleSpot (spotIn mode) p f r) x)
+    (λ k f w. refl)
+    (λ j k. refl) (λ j k why. refl) d e (fieldsOf mode p) h
+    ∙ sym (spot-along mode (kind.ControlMessage e) p)
 
-pub same-spot : (d e : Dialect) (s : List ℕ) → declines s ≡ false → spotIn (kind.Rpc d) s ≡ spotIn (kind.Rpc e) s
+pub same-spot : (mode : Mode) (d e : Edition) (s : List ℕ) → declines mode s ≡ false
+    → spotIn mode (kind.Rpc d) s ≡ spotIn mode (kind.Rpc e) s
 unfolding declines
-same-spot d e s h =
-    spot-along (kind.Rpc d) s
-    ∙ same-rpc (λ k w. spotAlong spotIn k s w) (λ f r x. orElse (roleSpot spotIn s f r) x) (λ k f w. refl)
+same-spot mode d e s h =
+    spot-along mode (kind.Rpc d) s
+    ∙ same-rpc mode (λ k w. spotAlong (spotIn mode) k s w) (λ f r x. orElse (roleSpot (spotIn mode) s f r) x)
+    (λ k f w. refl)
     (λ j k. refl) (λ j k why. refl) d e s
-    (λ f x t. ap (λ (c : Spot). orElse (inside (f .field) (f .start) c) x) (control-spot d e (valueIn s f) t))
-    (fieldsOf s) h
-    ∙ sym (spot-along (kind.Rpc e) s)
+    (λ f x t. ap (λ (c : Spot). orElse (inside (f .field) (f .start) c) x) (control-spot mode d e (valueIn s f) t))
+    (fieldsOf mode s) h
+    ∙ sym (spot-along mode (kind.Rpc e) s)
 
-control-rows : (d e : Dialect) (base : ℕ) (p : List ℕ) → hasField 5 p ≡ false
-    → rowsOf (kind.ControlMessage d) base p ≡ rowsOf (kind.ControlMessage e) base p
+control-rows : (mode : Mode) (d e : Edition) (base : ℕ) (p : List ℕ) → hasField mode 5 p ≡ false
+    → rowsOf mode (kind.ControlMessage d) base p ≡ rowsOf mode (kind.ControlMessage e) base p
 unfolding hasField ownRows ownOf
-control-rows d e base p h =
-    rows-along (kind.ControlMessage d) base p
-    ∙ same-control (λ k w. rowsAlong rowsOf k base p w) (λ f r x. roleRows rowsOf base p f r ++ x) (λ k f w. refl)
-    (λ j k. refl) (λ j k why. refl) d e (fieldsOf p) h
-    ∙ sym (rows-along (kind.ControlMessage e) base p)
+control-rows mode d e base p h =
+    rows-along mode (kind.ControlMessage d) base p
+    ∙ same-control mode (λ k w. rowsAlong (rowsOf mode) k base p w) (λ f r x. roleRows (rowsOf mode) base p f r ++ x)
+    (λ k f w. refl)
+    (λ j k. refl) (λ j k why. refl) d e (fieldsOf mode p) h
+    ∙ sym (rows-along mode (kind.ControlMessage e) base p)
 
-pub same-rows : (d e : Dialect) (base : ℕ) (s : List ℕ) → declines s ≡ false
-    → rowsOf (kind.Rpc d) base s ≡ rowsOf (kind.Rpc e) base s
+pub same-rows : (mode : Mode) (d e : Edition) (base : ℕ) (s : List ℕ) → declines mode s ≡ false
+    → rowsOf mode (kind.Rpc d) base s ≡ rowsOf mode (kind.Rpc e) base s
 unfolding declines ownRows ownOf
-same-rows d e base s h =
-    rows-along (kind.Rpc d) base s
-    ∙ same-rpc (λ k w. rowsAlong rowsOf k base s w) (λ f r x. roleRows rowsOf base s f r ++ x) (λ k f w. refl)
+same-rows mode d e base s h =
+    rows-along mode (kind.Rpc d) base s
+    ∙ same-rpc mode (λ k w. rowsAlong (rowsOf mode) k base s w) (λ f r x. roleRows (rowsOf mode) base s f r ++ x)
+    (λ k f w. refl)
     (λ j k. refl) (λ j k why. refl) d e s
-    (λ f x t. ap (λ (l : List Record). l ++ x) (control-rows d e (base + f .start) (valueIn s f) t)) (fieldsOf s) h
-    ∙ sym (rows-along (kind.Rpc e) base s)
+    (λ f x t. ap (λ (l : List Record). l ++ x) (control-rows mode d e (base + f .start) (valueIn s f) t))
+    (fieldsOf mode s) h
+    ∙ sym (rows-along mode (kind.Rpc e) base s)
 
 -- ---- so the test of a body, and what `decode` answers and leaves, are the same
-pub same-records : (d e : Dialect) (s : List ℕ) → declines s ≡ false → bodyRecords d s ≡ bodyRecords e s
+pub same-records : (mode : Mode) (d e : Edition) (s : List ℕ) → declines mode s ≡ false
+    → bodyRecords (spoken mode d) s ≡ bodyRecords (spoken mode e) s
 unfolding bodyRecords
-same-records d e s h = simp (same-counted d e s h, same-spot d e s h)
+same-records mode d e s h = simp (same-counted mode d e s h, same-spot mode d e s h)
 
-pub same-accept : (d e : Dialect) (s : List ℕ) → declines s ≡ false → acceptOf d s ≡ acceptOf e s
+pub same-accept : (mode : Mode) (d e : Edition) (s : List ℕ) → declines mode s ≡ false
+    → acceptOf (spoken mode d) s ≡ acceptOf (spoken mode e) s
 unfolding acceptOf
-same-accept d e s h = ap checked (same-records d e s h)
+same-accept mode d e s h = ap checked (same-records mode d e s h)
 
-pub same-answer : (d e : Dialect) (s : List ℕ) (words : ℕ) → declines s ≡ false
-    → decodeAnswer d s words ≡ decodeAnswer e s words
+pub same-answer : (mode : Mode) (d e : Edition) (s : List ℕ) (words : ℕ) → declines mode s ≡ false
+    → decodeAnswer (spoken mode d) s words ≡ decodeAnswer (spoken mode e) s words
 unfolding decodeAnswer
-same-answer d e s words h = ap (onCount (words / 20) (hasControl s)) (same-records d e s h)
+same-answer mode d e s words h = ap (onCount (words / 20) (hasControl mode s)) (same-records mode d e s h)
 
-same-leaves : (d e : Dialect) (s t : List ℕ) (r : Decoded) → declines s ≡ false → leaves d s t r ≡ leaves e s t r
-same-leaves d e s t (decoded.Records n c) h = ap (λ (rs : List Record). sets t 0 (wordsOfAll rs)) (same-rows d e 0 s h)
-same-leaves d e s t (decoded.Refused r) h = refl
-same-leaves d e s t (decoded.Room n) h = refl
+same-leaves : (mode : Mode) (d e : Edition) (s t : List ℕ) (r : Decoded) → declines mode s ≡ false
+    → leaves (spoken mode d) s t r ≡ leaves (spoken mode e) s t r
+same-leaves mode d e s t (decoded.Records n c) h = ap (λ (rs : List Record). sets t 0 (wordsOfAll rs))
+    (same-rows mode d e 0 s h)
+same-leaves mode d e s t (decoded.Refused r) h = refl
+same-leaves mode d e s t (decoded.Room n) h = refl
 
-pub same-table : (d e : Dialect) (s t : List ℕ) → declines s ≡ false → decodeTable d s t ≡ decodeTable e s t
+pub same-table : (mode : Mode) (d e : Edition) (s t : List ℕ) → declines mode s ≡ false
+    → decodeTable (spoken mode d) s t ≡ decodeTable (spoken mode e) s t
 unfolding decodeTable
-same-table d e s t h = ap (leaves d s t) (same-answer d e s (length t) h)
-    ∙ same-leaves d e s t (decodeAnswer e s (length t)) h
+same-table mode d e s t h = ap (leaves (spoken mode d) s t) (same-answer mode d e s (length t) h)
+    ∙ same-leaves mode d e s t (decodeAnswer (spoken mode e) s (length t)) h
 
 -- ---- what 1.2 takes 1.1 takes
 -- an RPC as 1.1 has it, without IDONTWANTs
@@ -237,12 +248,12 @@ olderIn (some c) = some (olderControl c)
 abbrev pub olderRpc : Rpc → Rpc
 olderRpc x = record { subscriptions = x .subscriptions; publish = x .publish; control = olderIn (x .control) }
 
-older-control : {s : List ℕ} {c : ControlMessage} → IsControl (spoken V12) s c
-    → IsControl (spoken V11) s (olderControl c)
+older-control : {mode : Mode} {s : List ℕ} {c : ControlMessage} → IsControl (spoken mode V12) s c
+    → IsControl (spoken mode V11) s (olderControl c)
 older-control (is-control g h1 h2 h3 h4 h5) = is-control g h1 h2 h3 h4 no-pairs
 
-older-controls : {ds : List (List ℕ)} {cs : List ControlMessage} → Pairs (IsControl (spoken V12)) ds cs
-    → Pairs (IsControl (spoken V11)) ds (map olderControl cs)
+older-controls : {mode : Mode} {ds : List (List ℕ)} {cs : List ControlMessage}
+    → Pairs (IsControl (spoken mode V12)) ds cs → Pairs (IsControl (spoken mode V11)) ds (map olderControl cs)
 older-controls no-pairs = no-pairs
 older-controls (p paired ps) = older-control p paired older-controls ps
 
@@ -255,10 +266,11 @@ older-joined : (cs : List ControlMessage) → joined (map olderControl cs) ≡ o
 older-joined [] = refl
 older-joined (c ∷ cs) = ap (joinTo (olderControl c)) (older-joined cs) ∙ older-join c (joined cs)
 
-pub older : {s : List ℕ} {x : Rpc} → IsRpc (spoken V12) s x → IsRpc (spoken V11) s (olderRpc x)
-older (is-rpc {s = s} {ss = ss} {ms = ms} {cs = cs} g h1 h2 h3) =
+pub older : {mode : Mode} {s : List ℕ} {x : Rpc} → IsRpc (spoken mode V12) s x → IsRpc (spoken mode V11) s (olderRpc x)
+older {mode} (is-rpc {s = s} {ss = ss} {ms = ms} {cs = cs} g h1 h2 h3) =
     subst
-    (λ (o : Option ControlMessage). IsRpc (spoken V11) s (record { subscriptions = ss; publish = ms; control = o }))
+    (λ (o : Option ControlMessage). IsRpc (spoken mode V11) s
+    (record { subscriptions = ss; publish = ms; control = o }))
     (older-joined cs) (is-rpc g h1 h2 (older-controls h3))
 
 -- with no more records
@@ -270,7 +282,8 @@ pub older-records : (x : Rpc) → recordsIn (olderRpc x) ≤ recordsIn x
 unfolding recordsIn
 older-records x = let h = older-size (x .control) in omega arith
 
-pub older-within : {s : List ℕ} {x : Rpc} → Within (spoken V12) s x → Within (spoken V11) s (olderRpc x)
+pub older-within : {mode : Mode} {s : List ℕ} {x : Rpc} → Within (spoken mode V12) s x
+    → Within (spoken mode V11) s (olderRpc x)
 older-within {x = x} w =
     record { means = older (w .means); small = w .small; few = omega (arith, w .few, older-records x) }
 
@@ -298,60 +311,63 @@ no-more-plus n (Records k) b p = (n + p .0, ap (plus n) (p .1), omega (arith, p 
 no-more-plus n (Refused why) b p = tt
 
 -- along the fields of two kinds, field by field
-no-more-along : (j k : Kind) (s : List ℕ) → ((f : Field) → NoMore (fieldCount j s f) (fieldCount k s f))
-    → (w : Fields) → NoMore (countAlong counted j s w) (countAlong counted k s w)
+no-more-along : (mode : Mode) (j k : Kind) (s : List ℕ)
+    → ((f : Field) → NoMore (fieldCount mode j s f) (fieldCount mode k s f))
+    → (w : Fields) → NoMore (countAlong (counted mode) j s w) (countAlong (counted mode) k s w)
 unfolding fieldCount
-no-more-along j k s h end = (0, refl, omega arith)
-no-more-along j k s h (refused why) = tt
-no-more-along j k s h (f then w) =
-    no-more-then (roleCount counted s f (roleOf j (f .field) (f .«wire_type»)))
-    (roleCount counted s f (roleOf k (f .field) (f .«wire_type»))) (countAlong counted j s w)
-    (countAlong counted k s w) (h f) (no-more-along j k s h w)
+no-more-along mode j k s h end = (0, refl, omega arith)
+no-more-along mode j k s h (refused why) = tt
+no-more-along mode j k s h (f then w) =
+    no-more-then (roleCount (counted mode) s f (roleOf j (f .field) (f .«wire_type»)))
+    (roleCount (counted mode) s f (roleOf k (f .field) (f .«wire_type»))) (countAlong (counted mode) j s w)
+    (countAlong (counted mode) k s w) (h f) (no-more-along mode j k s h w)
 
-no-more-counted : (j k : Kind) (s : List ℕ) → ((f : Field) → NoMore (fieldCount j s f) (fieldCount k s f))
-    → NoMore (counted j s) (counted k s)
-no-more-counted j k s h =
-    subst (NoMore (counted j s)) (sym (count-along k s))
-    (subst (λ (c : Counted). NoMore c (countAlong counted k s (fieldsOf s))) (sym (count-along j s))
-    (no-more-along j k s h (fieldsOf s)))
+no-more-counted : (mode : Mode) (j k : Kind) (s : List ℕ)
+    → ((f : Field) → NoMore (fieldCount mode j s f) (fieldCount mode k s f))
+    → NoMore (counted mode j s) (counted mode k s)
+no-more-counted mode j k s h =
+    subst (NoMore (counted mode j s)) (sym (count-along mode k s))
+    (subst (λ (c : Counted). NoMore c (countAlong (counted mode) k s (fieldsOf mode s))) (sym (count-along mode j s))
+    (no-more-along mode j k s h (fieldsOf mode s)))
 
-added-five : (f : Field) → isBytes 5 f ≡ true
-    → roleOf (kind.ControlMessage (spoken V11)) (f .field) (f .«wire_type») ≡ Skip
+added-five : (f : Field) → isBytes 5 f ≡ true → roleOf (kind.ControlMessage V11) (f .field) (f .«wire_type») ≡ Skip
 unfolding roleOf
 added-five f h =
     let t = both (eqb (f .«wire_type») 2) (eqb (f .field) 5) h in
     rw (eqb-true (f .«wire_type») 2 (t .0), eqb-true (f .field) 5 (t .1))
 
-older-field : (p : List ℕ) (f : Field)
-    → NoMore (fieldCount (kind.ControlMessage (spoken V12)) p f) (fieldCount (kind.ControlMessage (spoken V11)) p f)
+older-field : (mode : Mode) (p : List ℕ) (f : Field)
+    → NoMore (fieldCount mode (kind.ControlMessage V12) p f) (fieldCount mode (kind.ControlMessage V11) p f)
 unfolding fieldCount
-older-field p f =
-    let newer = roleCount counted p f (roleOf (kind.ControlMessage (spoken V12)) (f .field) (f .«wire_type»)) in
+older-field mode p f =
+    let newer = roleCount (counted mode) p f (roleOf (kind.ControlMessage V12) (f .field) (f .«wire_type»)) in
     either (isBytes 5 f)
-    (λ t. subst (λ (r : Role). NoMore newer (roleCount counted p f r)) (sym (added-five f t)) (no-more-none newer))
-    (λ t. subst (λ (r : Role). NoMore newer (roleCount counted p f r))
-    (control-role (spoken V12) (spoken V11) (f .field) (f .«wire_type») t) (no-more-same newer))
+    (λ t. subst (λ (r : Role). NoMore newer (roleCount (counted mode) p f r)) (sym (added-five f t))
+    (no-more-none newer))
+    (λ t. subst (λ (r : Role). NoMore newer (roleCount (counted mode) p f r))
+    (control-role V12 V11 (f .field) (f .«wire_type») t) (no-more-same newer))
 
-older-part : (s : List ℕ) (f : Field)
-    → NoMore (fieldCount (kind.Rpc (spoken V12)) s f) (fieldCount (kind.Rpc (spoken V11)) s f)
+older-part : (mode : Mode) (s : List ℕ) (f : Field)
+    → NoMore (fieldCount mode (kind.Rpc V12) s f) (fieldCount mode (kind.Rpc V11) s f)
 unfolding fieldCount ownOf
-older-part s f =
-    let newer = roleCount counted s f (roleOf (kind.Rpc (spoken V12)) (f .field) (f .«wire_type»)) in
+older-part mode s f =
+    let newer = roleCount (counted mode) s f (roleOf (kind.Rpc V12) (f .field) (f .«wire_type»)) in
     either (isBytes 3 f)
-    (λ t. subst (λ (r : Role). NoMore newer (roleCount counted s f r)) (sym (rpc-control (spoken V11) f t))
-    (subst (λ (r : Role). NoMore (roleCount counted s f r)
-    (roleCount counted s f (Sub (kind.ControlMessage (spoken V11)) Merged))) (sym (rpc-control (spoken V12) f t))
-    (no-more-plus 0 (counted (kind.ControlMessage (spoken V12)) (valueIn s f))
-    (counted (kind.ControlMessage (spoken V11)) (valueIn s f))
-    (no-more-counted (kind.ControlMessage (spoken V12)) (kind.ControlMessage (spoken V11)) (valueIn s f)
-    (older-field (valueIn s f))))))
-    (λ t. subst (λ (r : Role). NoMore newer (roleCount counted s f r))
-    (rpc-role (spoken V12) (spoken V11) (f .field) (f .«wire_type») t) (no-more-same newer))
+    (λ t. subst (λ (r : Role). NoMore newer (roleCount (counted mode) s f r)) (sym (rpc-control V11 f t))
+    (subst (λ (r : Role). NoMore (roleCount (counted mode) s f r)
+    (roleCount (counted mode) s f (Sub (kind.ControlMessage V11) Merged))) (sym (rpc-control V12 f t))
+    (no-more-plus 0 (counted mode (kind.ControlMessage V12) (valueIn s f))
+    (counted mode (kind.ControlMessage V11) (valueIn s f))
+    (no-more-counted mode (kind.ControlMessage V12) (kind.ControlMessage V11) (valueIn s f)
+    (older-field mode (valueIn s f))))))
+    (λ t. subst (λ (r : Role). NoMore newer (roleCount (counted mode) s f r))
+    (rpc-role V12 V11 (f .field) (f .«wire_type») t) (no-more-same newer))
 
-pub older-accept : (s : List ℕ) → acceptOf (spoken V12) s ≡ Fine → acceptOf (spoken V11) s ≡ Fine
-older-accept s h =
-    let t = is-taken (spoken V12) s h in
-    let m = subst (λ (c : Counted). NoMore c (counted (kind.Rpc (spoken V11)) s)) (t .counts)
-    (no-more-counted (kind.Rpc (spoken V12)) (kind.Rpc (spoken V11)) s (older-part s)) in
-    taken-fine (spoken V11) s
+pub older-accept : (mode : Mode) (s : List ℕ) → acceptOf (spoken mode V12) s ≡ Fine
+    → acceptOf (spoken mode V11) s ≡ Fine
+older-accept mode s h =
+    let t = is-taken (spoken mode V12) s h in
+    let m = subst (λ (c : Counted). NoMore c (counted mode (kind.Rpc V11) s)) (t .counts)
+    (no-more-counted mode (kind.Rpc V12) (kind.Rpc V11) s (older-part mode s)) in
+    taken-fine (spoken mode V11) s
     (record { records = m .0; counts = m .1; few = omega (arith, m .2, t .few); small = t .small })

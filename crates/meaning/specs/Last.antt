@@ -9,6 +9,7 @@ use lib.ListN.{length, take, drop, length-drop}
 use lib.Seq.{drop-drop, take-take, length-take-le}
 use lib.Dec.{eqb}
 use borrow.Author.Tests.{eqb-true}
+use Rattle.basis.specs.declared.Mode.{Mode}
 use Rattle.basis.specs.Cases.{either, clash}
 use Rattle.basis.specs.Lists.{drop-take}
 use Rattle.protobuf.specs.declared.Field.{Field}
@@ -40,27 +41,29 @@ pub record Part (b : List ℕ) (base : ℕ) (p : List ℕ) : Type 0 where
   pub here : p ≡ between b base (base + length p)
   pub fits : base + length p ≤ length b
 
-inside-step : (p : List ℕ) (at : ℕ) (fs : List Field) (r : Step) → r ≡ readField p at → onStep (walkAt p) r ≡ whole fs
-    → ((f : Field) (gs : List Field) → fs ≡ f ∷ gs → walkAt p (f .next) ≡ whole gs → Each (FieldWithin p) gs)
+inside-step : (mode : Mode) (p : List ℕ) (at : ℕ) (fs : List Field) (r : Step) → r ≡ readField mode p at
+    → onStep (walkAt mode p) r ≡ whole fs
+    → ((f : Field) (gs : List Field) → fs ≡ f ∷ gs → walkAt mode p (f .next) ≡ whole gs → Each (FieldWithin p) gs)
     → Each (FieldWithin p) fs
-inside-step p at [] r q h ih = none-left
-inside-step p at (g ∷ gs) step.End q h ih = clash (cc)
-inside-step p at (g ∷ gs) (step.Refused why) q h ih = clash (cc)
-inside-step p at (g ∷ gs) (step.At f) q h ih =
-    let eg : f ≡ g = cc in let ew : walkAt p (f .next) ≡ whole gs = cc in
-    let m = field-stands p at f q in
-    subst (FieldWithin p) eg (record { order = m .ends; fits = m .within }) and ih f gs (ap (λ (x : Field). x ∷ gs) (sym eg))
-    ew
+inside-step mode p at [] r q h ih = none-left
+inside-step mode p at (g ∷ gs) step.End q h ih = clash (cc)
+inside-step mode p at (g ∷ gs) (step.Refused why) q h ih = clash (cc)
+inside-step mode p at (g ∷ gs) (step.At f) q h ih =
+    let eg : f ≡ g = cc in let ew : walkAt mode p (f .next) ≡ whole gs = cc in
+    let m = field-stands mode p at f q in
+    subst (FieldWithin p) eg (record { order = m .ends; fits = m .within }) and ih f gs
+    (ap (λ (x : Field). x ∷ gs) (sym eg)) ew
 
-inside-from : (p : List ℕ) (fs : List Field) (at : ℕ) → walkAt p at ≡ whole fs → Each (FieldWithin p) fs
-inside-from p [] at h = none-left
-inside-from p (g ∷ hs) at h =
-    inside-step p at (g ∷ hs) (readField p at) refl (sym (walk-step p at) ∙ h)
+inside-from : (mode : Mode) (p : List ℕ) (fs : List Field) (at : ℕ) → walkAt mode p at ≡ whole fs
+    → Each (FieldWithin p) fs
+inside-from mode p [] at h = none-left
+inside-from mode p (g ∷ hs) at h =
+    inside-step mode p at (g ∷ hs) (readField mode p at) refl (sym (walk-step mode p at) ∙ h)
     (λ f gs e w. let eh : hs ≡ gs = cc in subst (Each (FieldWithin p)) eh
-    (inside-from p hs (f .next) (w ∙ ap whole (sym eh))))
+    (inside-from mode p hs (f .next) (w ∙ ap whole (sym eh))))
 
-pub walk-inside : (p : List ℕ) (fs : List Field) → walkAt p 0 ≡ whole fs → Each (FieldWithin p) fs
-walk-inside p fs h = inside-from p fs 0 h
+pub walk-inside : (mode : Mode) (p : List ℕ) (fs : List Field) → walkAt mode p 0 ≡ whole fs → Each (FieldWithin p) fs
+walk-inside mode p fs h = inside-from mode p fs 0 h
 
 -- the value of a field of a part, in the whole body
 pub part-value : (b : List ℕ) (base : ℕ) (p : List ℕ) (a e : ℕ) → Part b base p → a ≤ e → e ≤ length p

@@ -1,6 +1,6 @@
--- To be believed: Refused, ReadBack, Size (`recordsIn`), Table (`rowsIn`), Decoded (the records in which its theorems
--- are said), Editions (`declines`, `olderRpc`).
--- Theorems: Decoded, RefusedLaws, Back, Size, Editions.
+-- To be believed: Refused, ReadBack, Size (`recordsIn`), Table (`rowsIn`), RefusedLaws and Decoded (the records in
+-- which their theorems are said), Editions (`declines`, `olderRpc`), Modes (`NoGroupIn`, `NoGroupBody`).
+-- Theorems: Decoded, RefusedLaws, Back, Size, Editions, Modes.
 -- On the way to them: Entries, Good, Accepted, Last, Table.
 pub mod Refused
 pub mod ReadBack
@@ -14,3 +14,4 @@ pub mod Table
 pub mod Size
 pub mod Decoded
 pub mod Editions
+pub mod Modes

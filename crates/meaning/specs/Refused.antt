@@ -1,8 +1,8 @@
--- Where and why a message is refused by one of 1 to 7 and 14 to 16: the first refusal in reading order. Field after field
--- is without refusal, up to one that is refused itself, or that is a submessage which is refused inside. The path has the
--- numbers of the fields that enclose the place, the outermost first; the offset counts from the start of the whole; the
--- reason has the Rust's own numbers, which count from the start of the part that is refused itself. The places of 14 to 16
--- are not told. Nothing here speaks of a reader.
+-- Where and why a message is refused by one of 1 to 7 and 14 to 16: the first refusal in reading order. Field after
+-- field is without refusal, up to one that is refused itself, or that is a submessage which is refused inside. The path
+-- has the numbers of the fields that enclose the place, the outermost first; the offset counts from the start of the
+-- whole; the reason has the Rust's own numbers, which count from the start of the part that is refused itself. The
+-- places of 14 to 16 are not told. Nothing here speaks of a reader.
 use Prim.Native.Nat.{ℕ, _+_, _*_, _^_, _≤_, _<_}
 use mathlib.Core.Path.{_≡_}
 use mathlib.Core.List.{List, [], _∷_, _++_}
@@ -69,13 +69,15 @@ Fine mode k n (group d) = Unit {0}
 Fine mode k n (four d) = Unit {0}
 
 -- what stands from the place `base` on in a message of kind k is refused: its first field is refused by its bytes (1 to
--- 6, 14 to 16) or as text (7); or it is a submessage that is refused inside; or it is without refusal, and a later one is refused
+-- 6, 14 to 16) or as text (7); or it is a submessage that is refused inside; or it is without refusal, and a later one
+-- is refused
 pub data RefusedAt (mode : Mode) : Kind → ℕ → List ℕ → List ℕ → ℕ → WireError → Type 0 where
   wire : {k : Kind} {base place : ℕ} {s : List ℕ} {why : WireError} → Fault mode base s place why
       → RefusedAt mode k base s [] place why
   text : {k : Kind} {base n m : ℕ} (d rest : List ℕ) → 1 ≤ n → n ≤ 536870911 → length d < 2 ^ 64
       → IsText (roleOf k n 2) m → (Utf8 d → ⊥)
-      → RefusedAt mode k base (bytesField n d ++ rest) [] (base + length (tag n 2)) (InvalidUtf8 (base + length (tag n 2)))
+      → RefusedAt mode k base (bytesField n d ++ rest) [] (base + length (tag n 2))
+      (InvalidUtf8 (base + length (tag n 2)))
   inside : {k j : Kind} {form : Form} {base n offset : ℕ} {path : List ℕ} {why : WireError} (d rest : List ℕ) → 1 ≤ n
       → n ≤ 536870911 → length d < 2 ^ 64 → roleOf k n 2 ≡ Sub j form → RefusedAt mode j 0 d path offset why
       → RefusedAt mode k base (bytesField n d ++ rest) (n ∷ path)

@@ -79,10 +79,11 @@ flat-records [] = refl
 flat-records (c ∷ cs) = ap someRecords (joined-some c cs)
 
 -- a body has as many records as the RPC that it means
-pub rpc-records : {d : Dialect} {b : List ℕ} {x : Rpc} → IsRpc d b x → length (rowsOf (kind.Rpc d) 0 b) ≡ recordsIn x
+pub rpc-records : {d : Dialect} {b : List ℕ} {x : Rpc} → IsRpc d b x
+    → length (rowsOf (d .mode) (kind.Rpc (d .edition)) 0 b) ≡ recordsIn x
 unfolding recordsIn
 rpc-records {d} (is-rpc {s = s} {es = es} {ss = ss} {ms = ms} {cs = cs} g h1 h2 h3) =
     let e = ap size (rpc-gathered d s es ss ms cs g h1 h2 h3) in
-    let w = weight-each (all-records (kind.Rpc d) 0 s) in
-    let z = size-gather s (rowsOf (kind.Rpc d) 0 s) nothing in
+    let w = weight-each (all-records (d .mode) (kind.Rpc (d .edition)) 0 s) in
+    let z = size-gather s (rowsOf (d .mode) (kind.Rpc (d .edition)) 0 s) nothing in
     omega (arith, e, w, z, flat-records cs)

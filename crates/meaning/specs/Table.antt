@@ -9,6 +9,7 @@ use lib.ListN.{length, drop, getD}
 use lib.Seq.{sets, sets-eq, getD-drop, getD-append-add, drop-drop, drop-at}
 use lib.Dec.{eqb}
 use borrow.Author.Tests.{eqb-false, lt-leb}
+use Rattle.basis.specs.declared.Mode.{Mode}
 use Rattle.basis.specs.Cases.{either}
 use Rattle.protobuf.specs.declared.Field.{Field}
 use Rattle.protobuf.specs.Walk.{Fields, end, refused, _then_, fieldsOf, between}
@@ -46,42 +47,42 @@ pub each-append : {A : Type 0} {P : A → Type 0} {xs ys : List A} → Each P xs
 each-append none-left qs = qs
 each-append (p and ps) qs = p and each-append ps qs
 
-own-records : (k : Kind) (base : ℕ) (s : List ℕ) → AllRecords (ownRows k base s)
+own-records : (mode : Mode) (k : Kind) (base : ℕ) (s : List ℕ) → AllRecords (ownRows mode k base s)
 unfolding ownRows
-own-records k base s =
+own-records mode k base s =
     either (eqb (ownOf k) 0) (λ t. simp t none-left)
     (λ t. let o = own-one k in let z = eqb-false (ownOf k) 0 t in let e : ownOf k ≡ 1 = omega arith in
     simp t (e and none-left))
 
-role-records : (base : ℕ) (s : List ℕ) (f : Field) (r : Role)
-    → ((j : Kind) (form : Form) (b : ℕ) (p : List ℕ) → r ≡ Sub j form → AllRecords (rowsOf j b p))
-    → AllRecords (roleRows rowsOf base s f r)
+role-records : (mode : Mode) (base : ℕ) (s : List ℕ) (f : Field) (r : Role)
+    → ((j : Kind) (form : Form) (b : ℕ) (p : List ℕ) → r ≡ Sub j form → AllRecords (rowsOf mode j b p))
+    → AllRecords (roleRows (rowsOf mode) base s f r)
 unfolding ownOf
-role-records base s f Skip h = none-left
-role-records base s f (NumberRole figure) h = none-left
-role-records base s f (Text slot) h = none-left
-role-records base s f (Bytes slot) h = none-left
-role-records base s f (Unsigned slot) h = none-left
-role-records base s f Topic h = refl and none-left
-role-records base s f MessageId h = refl and none-left
-role-records base s f (Sub k form) h = h k form (base + f .start) (between s (f .start) (f .next)) refl
+role-records mode base s f Skip h = none-left
+role-records mode base s f (NumberRole figure) h = none-left
+role-records mode base s f (Text slot) h = none-left
+role-records mode base s f (Bytes slot) h = none-left
+role-records mode base s f (Unsigned slot) h = none-left
+role-records mode base s f Topic h = refl and none-left
+role-records mode base s f MessageId h = refl and none-left
+role-records mode base s f (Sub k form) h = h k form (base + f .start) (between s (f .start) (f .next)) refl
 
-along-records : (k : Kind) (base : ℕ) (s : List ℕ) (w : Fields)
-    → ((j : Kind) (b : ℕ) (p : List ℕ) → rank j < rank k → AllRecords (rowsOf j b p))
-    → AllRecords (rowsAlong rowsOf k base s w)
-along-records k base s end h = none-left
-along-records k base s (refused why) h = none-left
-along-records k base s (f then w) h =
+along-records : (mode : Mode) (k : Kind) (base : ℕ) (s : List ℕ) (w : Fields)
+    → ((j : Kind) (b : ℕ) (p : List ℕ) → rank j < rank k → AllRecords (rowsOf mode j b p))
+    → AllRecords (rowsAlong (rowsOf mode) k base s w)
+along-records mode k base s end h = none-left
+along-records mode k base s (refused why) h = none-left
+along-records mode k base s (f then w) h =
     each-append
-    (role-records base s f (roleOf k (f .field) (f .«wire_type»))
+    (role-records mode base s f (roleOf k (f .field) (f .«wire_type»))
     (λ j form b p q. h j b p (sub-rank k j form (f .field) (f .«wire_type») q)))
-    (along-records k base s w h)
+    (along-records mode k base s w h)
 
-pub all-records : (k : Kind) (base : ℕ) (s : List ℕ) → AllRecords (rowsOf k base s)
-all-records =
-    by-rank (λ k. (base : ℕ) (s : List ℕ) → AllRecords (rowsOf k base s))
-    (λ k ih base s. rw (rows-along k base s)
-    (each-append (own-records k base s) (along-records k base s (fieldsOf s) (λ j b p q. ih j q b p))))
+pub all-records : (mode : Mode) (k : Kind) (base : ℕ) (s : List ℕ) → AllRecords (rowsOf mode k base s)
+all-records mode =
+    by-rank (λ k. (base : ℕ) (s : List ℕ) → AllRecords (rowsOf mode k base s))
+    (λ k ih base s. rw (rows-along mode k base s)
+    (each-append (own-records mode k base s) (along-records mode k base s (fieldsOf mode s) (λ j b p q. ih j q b p))))
 
 -- ---- each part of a record
 pub kind-back : (k : Kind) → IsRecord k → kindFrom (kindCode k) ≡ k

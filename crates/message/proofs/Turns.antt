@@ -6,6 +6,7 @@ use native.Mathlib.Omega.{arith}
 use lib.ListN.{length, length-append}
 use lib.Seq.{sets, length-sets}
 use borrow.Author.Tests.{eq-eqb, ne-eqb}
+use Rattle.basis.specs.declared.Mode.{Mode}
 use Rattle.basis.specs.Lists.{sets-append}
 use Rattle.protobuf.specs.declared.Field.{Field}
 use Rattle.protobuf.specs.declared.WireError.{WireError}
@@ -74,53 +75,53 @@ module _ (t₀ : List ℕ) (row : ℕ) (all : List Record) (t : List ℕ) (next 
         }
 
 -- ---- the records of a message
-module _ (k : Kind) (base : ℕ) (s : List ℕ) where
+module _ (mode : Mode) (k : Kind) (base : ℕ) (s : List ℕ) where
   abbrev pub alongAt : ℕ → List Record
-  alongAt at = rowsAlong rowsOf k base s (walkAt s at)
+  alongAt at = rowsAlong (rowsOf mode) k base s (walkAt mode s at)
 
-  pub rows-count : length (rowsOf k base s) ≡ ownOf k + length (alongAt 0)
+  pub rows-count : length (rowsOf mode k base s) ≡ ownOf k + length (alongAt 0)
   rows-count =
-      ap length (rows-along k base s) ∙ length-append (ownRows k base s) (alongAt 0) ∙ ap (λ (n : ℕ). n + length (alongAt 0)) (own-length k base s)
+      ap length (rows-along mode k base s) ∙ length-append (ownRows mode k base s) (alongAt 0) ∙ ap (λ (n : ℕ). n + length (alongAt 0)) (own-length mode k base s)
 
-  pub puts-rows : (t u v : List ℕ) (row m n : ℕ) → Puts t row (ownRows k base s) u m → Puts u m (alongAt 0) v n → Puts t row (rowsOf k base s) v n
-  puts-rows t u v row m n p q = rw (rows-along k base s) (puts-append t u v row m n (ownRows k base s) (alongAt 0) p q)
+  pub puts-rows : (t u v : List ℕ) (row m n : ℕ) → Puts t row (ownRows mode k base s) u m → Puts u m (alongAt 0) v n → Puts t row (rowsOf mode k base s) v n
+  puts-rows t u v row m n p q = rw (rows-along mode k base s) (puts-append t u v row m n (ownRows mode k base s) (alongAt 0) p q)
 
-  own-none : ownOf k ≡ 0 → ownRows k base s ≡ []
+  own-none : ownOf k ≡ 0 → ownRows mode k base s ≡ []
   unfolding ownRows
   own-none h = simp (eq-eqb (ownOf k) 0 h)
 
-  own-some : (ownOf k ≡ 0 → ⊥) → ownRows k base s ≡ record { kind = k; start = base; end = base + length s; slots = slotsOf k s } ∷ []
+  own-some : (ownOf k ≡ 0 → ⊥) → ownRows mode k base s ≡ record { kind = k; start = base; end = base + length s; slots = slotsOf mode k s } ∷ []
   unfolding ownRows
   own-some h = simp (ne-eqb (ownOf k) 0 h)
 
-  pub puts-own-none : (t : List ℕ) (row : ℕ) → ownOf k ≡ 0 → Puts t row (ownRows k base s) t row
+  pub puts-own-none : (t : List ℕ) (row : ℕ) → ownOf k ≡ 0 → Puts t row (ownRows mode k base s) t row
   puts-own-none t row h = rw (own-none h) (puts-none t row)
 
-  pub puts-own : (t u : List ℕ) (row : ℕ) (x : Slots) → (ownOf k ≡ 0 → ⊥) → x ≡ slotsOf k s → u ≡ sets t (row * 20) (wordsOf (record { kind = k; start = base; end = base + length s; slots = x })) → Puts t row (ownRows k base s) u (row + 1)
+  pub puts-own : (t u : List ℕ) (row : ℕ) (x : Slots) → (ownOf k ≡ 0 → ⊥) → x ≡ slotsOf mode k s → u ≡ sets t (row * 20) (wordsOf (record { kind = k; start = base; end = base + length s; slots = x })) → Puts t row (ownRows mode k base s) u (row + 1)
   puts-own t u row x h e w = rw (own-some h) (puts-one t u row (row + 1) _ (refl, rw e at w))
 
   module _ (at : ℕ) where
     pub along-done : length s ≤ at → alongAt at ≡ []
-    along-done h = ap (rowsAlong rowsOf k base s) (walk-end s at h)
+    along-done h = ap (rowsAlong (rowsOf mode) k base s) (walk-end mode s at h)
 
-    pub along-end : step.End ≡ readField s at → alongAt at ≡ []
-    along-end h = ap (rowsAlong rowsOf k base s) (walk-on s at step.End h)
+    pub along-end : step.End ≡ readField mode s at → alongAt at ≡ []
+    along-end h = ap (rowsAlong (rowsOf mode) k base s) (walk-on mode s at step.End h)
 
-    pub along-refused : (why : WireError) → step.Refused why ≡ readField s at → alongAt at ≡ []
-    along-refused why h = ap (rowsAlong rowsOf k base s) (walk-on s at (step.Refused why) h)
+    pub along-refused : (why : WireError) → step.Refused why ≡ readField mode s at → alongAt at ≡ []
+    along-refused why h = ap (rowsAlong (rowsOf mode) k base s) (walk-on mode s at (step.Refused why) h)
 
-    pub along-field : (f : Field) → step.At f ≡ readField s at → alongAt at ≡ fieldRows k base s f ++ alongAt (f .next)
+    pub along-field : (f : Field) → step.At f ≡ readField mode s at → alongAt at ≡ fieldRows mode k base s f ++ alongAt (f .next)
     unfolding fieldRows
-    along-field f h = ap (rowsAlong rowsOf k base s) (walk-on s at (step.At f) h)
+    along-field f h = ap (rowsAlong (rowsOf mode) k base s) (walk-on mode s at (step.At f) h)
 
   -- a field's records, by its role
   module _ (f : Field) (r : Role) (e : roleOf k (f .field) (f .«wire_type») ≡ r) where
-    field-role : fieldRows k base s f ≡ roleRows rowsOf base s f r
+    field-role : fieldRows mode k base s f ≡ roleRows (rowsOf mode) base s f r
     unfolding fieldRows
-    field-role = ap (roleRows rowsOf base s f) e
+    field-role = ap (roleRows (rowsOf mode) base s f) e
 
-    pub field-count : length (fieldRows k base s f) ≡ length (roleRows rowsOf base s f r)
+    pub field-count : length (fieldRows mode k base s f) ≡ length (roleRows (rowsOf mode) base s f r)
     field-count = ap length field-role
 
-    pub puts-field : (t u : List ℕ) (row m : ℕ) → Puts t row (roleRows rowsOf base s f r) u m → Puts t row (fieldRows k base s f) u m
+    pub puts-field : (t u : List ℕ) (row m : ℕ) → Puts t row (roleRows (rowsOf mode) base s f r) u m → Puts t row (fieldRows mode k base s f) u m
     puts-field t u row m p = rw field-role p

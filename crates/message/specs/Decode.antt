@@ -1,5 +1,5 @@
 -- Reading a body: what decode answers and what it leaves in the lent table. Refusals come in the order of the scope's
--- table: 10, 1 to 7, 11, 12.
+-- table: 10, 1 to 7 and 14 to 16, 11, 12.
 use Prim.Native.Nat.{ℕ, _/_}
 use mathlib.Core.List.{List}
 use mathlib.Core.Bool.{Bool, cond}

@@ -59,7 +59,8 @@ ownRows mode k base s =
 
 -- a message that stands at a base, with what stands inside it
 abbrev pub rowsStep : Mode → (Kind → ℕ × List ℕ → List Record) → Kind → ℕ × List ℕ → List Record
-rowsStep mode sub k x = ownRows mode k (x .0) (x .1) ++ rowsAlong (λ j b p. sub j (b, p)) k (x .0) (x .1) (fieldsOf mode (x .1))
+rowsStep mode sub k x = ownRows mode k (x .0) (x .1)
+    ++ rowsAlong (λ j b p. sub j (b, p)) k (x .0) (x .1) (fieldsOf mode (x .1))
 
 unfoldable pub rowsOf : Mode → Kind → ℕ → List ℕ → List Record
 rowsOf mode k base s = overKinds (rowsStep mode) [] k (base, s)

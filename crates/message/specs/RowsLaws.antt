@@ -7,6 +7,7 @@ use native.Mathlib.Omega.{arith}
 use lib.ListN.{length, length-append}
 use lib.Dec.{eqb}
 use borrow.Author.Tests.{eqb-true, eqb-false}
+use Rattle.basis.specs.declared.Mode.{Mode}
 use Rattle.basis.specs.Cases.{either, clash}
 use Rattle.protobuf.specs.declared.Field.{Field}
 use Rattle.protobuf.specs.Walk.{Fields, end, refused, _then_, fieldsOf, between}
@@ -53,59 +54,65 @@ same-along f g k base s (x then w) h =
     (λ j form b p e. h j b p (sub-rank k j form (x .field) (x .«wire_type») e)))
     (same-along f g k base s w h)
 
-pub rows-along : (k : Kind) (base : ℕ) (s : List ℕ) → rowsOf k base s ≡ ownRows k base s
-    ++ rowsAlong rowsOf k base s (fieldsOf s)
+pub rows-along : (mode : Mode) (k : Kind) (base : ℕ) (s : List ℕ) → rowsOf mode k base s ≡ ownRows mode k base s
+    ++ rowsAlong (rowsOf mode) k base s (fieldsOf mode s)
 unfolding rowsOf
-rows-along k base s =
-    unfolds rowsStep []
-    (λ f g j x h. ap (λ (l : List Record). ownRows j (x .0) (x .1) ++ l)
-    (same-along (λ i b p. f i (b, p)) (λ i b p. g i (b, p)) j (x .0) (x .1) (fieldsOf (x .1))
+rows-along mode k base s =
+    unfolds (rowsStep mode) []
+    (λ f g j x h. ap (λ (l : List Record). ownRows mode j (x .0) (x .1) ++ l)
+    (same-along (λ i b p. f i (b, p)) (λ i b p. g i (b, p)) j (x .0) (x .1) (fieldsOf mode (x .1))
     (λ i b p l. h i (b, p) l)))
     k (base, s)
 
 -- ---- as many records as were counted
-pub own-length : (k : Kind) (base : ℕ) (s : List ℕ) → length (ownRows k base s) ≡ ownOf k
+pub own-length : (mode : Mode) (k : Kind) (base : ℕ) (s : List ℕ) → length (ownRows mode k base s) ≡ ownOf k
 unfolding ownRows
-own-length k base s =
+own-length mode k base s =
     either (eqb (ownOf k) 0) (λ t. simp t (sym (eqb-true (ownOf k) 0 t)))
     (λ t. let o = own-one k in let z = eqb-false (ownOf k) 0 t in let e : 1 ≡ ownOf k = omega arith in simp t e)
 
-role-length : (base : ℕ) (s : List ℕ) (f : Field) (r : Role) (m : ℕ) → roleCount counted s f r ≡ Records m
-    → ((j : Kind) (form : Form) (b : ℕ) (p : List ℕ) (x : ℕ) → r ≡ Sub j form → counted j p ≡ Records x
-    → length (rowsOf j b p) ≡ ownOf j + x) → length (roleRows rowsOf base s f r) ≡ m
-role-length base s f Skip m h ih = cc
-role-length base s f (Number figure) m h ih = cc
-role-length base s f (Text slot) m h ih = sym (text-fits s f 0 m h)
-role-length base s f (Bytes slot) m h ih = cc
-role-length base s f (Unsigned slot) m h ih = cc
-role-length base s f Topic m h ih = sym (text-fits s f 1 m h)
-role-length base s f MessageId m h ih = cc
-role-length base s f (Sub k form) m h ih =
-    let t = plus-fits (ownOf k) m (counted k (between s (f .start) (f .next))) h in
+role-length : (mode : Mode) (base : ℕ) (s : List ℕ) (f : Field) (r : Role) (m : ℕ)
+    → roleCount (counted mode) s f r ≡ Records m
+    → ((j : Kind) (form : Form) (b : ℕ) (p : List ℕ) (x : ℕ) → r ≡ Sub j form → counted mode j p ≡ Records x
+    → length (rowsOf mode j b p) ≡ ownOf j + x) → length (roleRows (rowsOf mode) base s f r) ≡ m
+role-length mode base s f Skip m h ih = cc
+role-length mode base s f (Number figure) m h ih = cc
+role-length mode base s f (Text slot) m h ih = sym (text-fits s f 0 m h)
+role-length mode base s f (Bytes slot) m h ih = cc
+role-length mode base s f (Unsigned slot) m h ih = cc
+role-length mode base s f Topic m h ih = sym (text-fits s f 1 m h)
+role-length mode base s f MessageId m h ih = cc
+role-length mode base s f (Sub k form) m h ih =
+    let t = plus-fits (ownOf k) m (counted mode k (between s (f .start) (f .next))) h in
     ih k form (base + f .start) (between s (f .start) (f .next)) (t .0) refl (t .1) ∙ sym (t .2)
 
-along-length : (k : Kind) (base : ℕ) (s : List ℕ) (w : Fields) (n : ℕ) → countAlong counted k s w ≡ Records n
-    → ((j : Kind) (b : ℕ) (p : List ℕ) (x : ℕ) → rank j < rank k → counted j p ≡ Records x
-    → length (rowsOf j b p) ≡ ownOf j + x) → length (rowsAlong rowsOf k base s w) ≡ n
-along-length k base s end n h ih = cc
-along-length k base s (refused why) n h ih = clash (cc)
-along-length k base s (f then w) n h ih =
-    let t = then-fits (roleCount counted s f (roleOf k (f .field) (f .«wire_type»))) (countAlong counted k s w) n h in
-    let a = role-length base s f (roleOf k (f .field) (f .«wire_type»)) (t .0) (t .2)
+along-length : (mode : Mode) (k : Kind) (base : ℕ) (s : List ℕ) (w : Fields) (n : ℕ)
+    → countAlong (counted mode) k s w ≡ Records n
+    → ((j : Kind) (b : ℕ) (p : List ℕ) (x : ℕ) → rank j < rank k → counted mode j p ≡ Records x
+    → length (rowsOf mode j b p) ≡ ownOf j + x) → length (rowsAlong (rowsOf mode) k base s w) ≡ n
+along-length mode k base s end n h ih = cc
+along-length mode k base s (refused why) n h ih = clash (cc)
+along-length mode k base s (f then w) n h ih =
+    let t = then-fits (roleCount (counted mode) s f (roleOf k (f .field) (f .«wire_type»)))
+    (countAlong (counted mode) k s w) n h in
+    let a = role-length mode base s f (roleOf k (f .field) (f .«wire_type»)) (t .0) (t .2)
     (λ j form b p x q. ih j b p x (sub-rank k j form (f .field) (f .«wire_type») q)) in
-    let b = along-length k base s w (t .1) (t .3) ih in
-    length-append (roleRows rowsOf base s f (roleOf k (f .field) (f .«wire_type»))) (rowsAlong rowsOf k base s w)
+    let b = along-length mode k base s w (t .1) (t .3) ih in
+    length-append (roleRows (rowsOf mode) base s f (roleOf k (f .field) (f .«wire_type»)))
+    (rowsAlong (rowsOf mode) k base s w)
     ∙ omega (arith, a, b, t .4)
 
-pub rows-length : (k : Kind) (base : ℕ) (s : List ℕ) (n : ℕ) → counted k s ≡ Records n
-    → length (rowsOf k base s) ≡ ownOf k + n
-rows-length =
-    by-rank (λ k. (base : ℕ) (s : List ℕ) (n : ℕ) → counted k s ≡ Records n → length (rowsOf k base s) ≡ ownOf k + n)
+pub rows-length : (mode : Mode) (k : Kind) (base : ℕ) (s : List ℕ) (n : ℕ) → counted mode k s ≡ Records n
+    → length (rowsOf mode k base s) ≡ ownOf k + n
+rows-length mode =
+    by-rank (λ k. (base : ℕ) (s : List ℕ) (n : ℕ) → counted mode k s ≡ Records n
+    → length (rowsOf mode k base s) ≡ ownOf k + n)
     (λ k ih base s n h.
-    let a = along-length k base s (fieldsOf s) n (sym (count-along k s) ∙ h) (λ j b p x q e. ih j q b p x e) in
-    ap length (rows-along k base s)
-    ∙ length-append (ownRows k base s) (rowsAlong rowsOf k base s (fieldsOf s))
-    ∙ omega (arith, own-length k base s, a))
+    let a = along-length mode k base s (fieldsOf mode s) n (sym (count-along mode k s) ∙ h)
+    (λ j b p x q e. ih j q b p x e) in
+    ap length (rows-along mode k base s)
+    ∙ length-append (ownRows mode k base s) (rowsAlong (rowsOf mode) k base s (fieldsOf mode s))
+    ∙ omega (arith, own-length mode k base s, a))
 
 -- ---- a record takes twenty words
 pub number-length : (x : Num) → length (numberWords x) ≡ 2

@@ -9,8 +9,9 @@ use lib.ListN.{length, take, drop, length-drop}
 use lib.Seq.{sets, sets-eq, length-sets, take-at, take-all}
 use lib.Dec.{leb, eqb}
 use borrow.Author.Tests.{eq-eqb, ne-eqb, le-leb, lt-leb, leb-true, leb-false, lt-ltb, le-ltb}
+use Rattle.basis.specs.declared.Mode.{Mode}
 use Rattle.basis.specs.declared.Edition.{Edition}
-use Rattle.basis.specs.Dialect.{spoken}
+use Rattle.basis.specs.Dialect.{modeOf, spoken}
 use Rattle.basis.specs.Cases.{either, clash}
 use Rattle.basis.specs.Writing.{answer, written}
 use Rattle.rows.specs.Store.{InStore, Sound, inUse}
@@ -252,9 +253,9 @@ module _ (n : Node) (ss cs : List ℕ) (at : ℕ) where
         let m = n .«max_seen» in
         enters-can m m x d ss key s left (sound-enters m m d ss key (omega arith) k (swept-sound (y .rows)) (y .few)) e
 
-    module _ (part key : List ℕ) (ek : key ≡ formOf part (drop 1 key)) where
+    module _ (part key : List ℕ) (ek : key ≡ formOf (modeOf (n .cache .flags)) part (drop 1 key)) where
       abbrev form : List ℕ
-      form = formOf part (drop 1 key)
+      form = formOf (modeOf (n .cache .flags)) part (drop 1 key)
 
       held-is : heldIn (n .«max_seen») d ss key ≡ heldAt n ss at form
       unfolding heldAt swept
@@ -295,18 +296,18 @@ module _ (n : Node) (ss cs : List ℕ) (at : ℕ) where
             ),
           )
 
-pub key-long : (part key : List ℕ) → key ≡ formOf part (drop 1 key) → 1 ≤ length key
-key-long part key e = let l = ap length e in omega arith
+pub key-long : (mode : Mode) (part key : List ℕ) → key ≡ formOf mode part (drop 1 key) → 1 ≤ length key
+key-long mode part key e = let l = ap length e in omega arith
 
-pub key-small : (part key : List ℕ) → key ≡ formOf part (drop 1 key) → length key ≤ 129 → length (take (length key - 1) (drop 1 key)) ≤ 128
-key-small part key e h = let l = ap length e in rw (take-all (length key - 1) (drop 1 key) (rw (length-drop 1 key) (omega arith))) (omega arith)
+pub key-small : (mode : Mode) (part key : List ℕ) → key ≡ formOf mode part (drop 1 key) → length key ≤ 129 → length (take (length key - 1) (drop 1 key)) ≤ 128
+key-small mode part key e h = let l = ap length e in rw (take-all (length key - 1) (drop 1 key) (rw (length-drop 1 key) (omega arith))) (omega arith)
 
 -- what is behind the mark is the id under which a message is kept
-pub keeps-under : (c : MessageCache) (cs part key : List ℕ) → Usable c cs → length part ≤ 4096 → key ≡ formOf part (drop 1 key)
+pub keeps-under : (c : MessageCache) (cs part key : List ℕ) → Usable c cs → length part ≤ 4096 → key ≡ formOf (modeOf (c .flags)) part (drop 1 key)
     → length key ≤ 129 → (r : PutDone) (left : List ℕ) → Keeps c cs part (take (length key - 1) (drop 1 key)) r left
     → (r .cache ≡ keptUnder part (take (length key - 1) (drop 1 key)) c) × (left ≡ storedUnder c cs part (take (length key - 1) (drop 1 key)))
 keeps-under c cs part key u p e k r left w =
-    keep-usable c cs part (take (length key - 1) (drop 1 key)) p (key-small part key e k) u r left w .1
+    keep-usable c cs part (take (length key - 1) (drop 1 key)) p (key-small (modeOf (c .flags)) part key e k) u r left w .1
 
 -- ---- the message in a part
 pub plan-unfit : (g : Node) (at : ℕ) (p : List ℕ) (word : Bool) (why : Unfit) → admission.Unfit why ≡ admissionOf (g .cache .flags) p word
@@ -321,11 +322,11 @@ module _ (flags : ℕ) (p : List ℕ) (word : Bool) (a e b f : ℕ) (h : admissi
   plan-taken g at k = rw (h, le-ltb at (g .clock) k)
 
   -- where unsigned messages are not allowed it has a signature
-  pub has-signature : allowsUnsigned flags ≡ false → isSigned p ≡ true
+  pub has-signature : allowsUnsigned flags ≡ false → isSigned (modeOf flags) p ≡ true
   has-signature off = fit-signed flags p word a e b f h off
 
   -- the id was formed behind the mark
-  module _ (first-byte : ℕ) (is-mark : first-byte ≡ mark (isSigned p)) (n : ℕ) (first y : List ℕ) (z : length first ≡ 128)
+  module _ (first-byte : ℕ) (is-mark : first-byte ≡ mark (isSigned (modeOf flags) p)) (n : ℕ) (first y : List ℕ) (z : length first ≡ 128)
       (k : Forms p a e b f first n y) where
     counted : (n ≡ length (idBytes p a e b f)) × (y ≡ sets first 0 (idBytes p a e b f))
     counted = form-fit flags p word a e b f first n y h (let l = fit-id flags p word a e b f h in omega (arith, l .1)) k
@@ -347,14 +348,14 @@ module _ (flags : ℕ) (p : List ℕ) (word : Bool) (a e b f : ℕ) (h : admissi
         let s = formed-small in
         rw (append-nil y) (omega arith)
 
-    formed-key : key ≡ formOf p (idBytes p a e b f)
+    formed-key : key ≡ formOf (modeOf flags) p (idBytes p a e b f)
     formed-key = rw (append-nil y, add-one n) (ap₂ (λ (c : ℕ) (x : List ℕ). c ∷ x) is-mark formed)
 
     pub formed-counts : n + 1 ≡ length key
     formed-counts = let l = ap length formed-key in omega (arith, counted .0)
 
-    pub formed-fits : (length p ≤ 4096) × (length key ≤ 129) × (key ≡ formOf p (drop 1 key))
-    formed-fits = (fit-limits flags p word a e b f h .small, omega (arith, formed-counts, formed-small), formed-key ∙ ap (λ (x : List ℕ). formOf p (drop 1 x)) (sym formed-key))
+    pub formed-fits : (length p ≤ 4096) × (length key ≤ 129) × (key ≡ formOf (modeOf flags) p (drop 1 key))
+    formed-fits = (fit-limits flags p word a e b f h .small, omega (arith, formed-counts, formed-small), formed-key ∙ ap (λ (x : List ℕ). formOf (modeOf flags) p (drop 1 x)) (sym formed-key))
 
     pub admits-formed : (g : Node) (ss cs : List ℕ) (at : ℕ) → g .clock ≤ at → {r : Admit} {g2 : Node} {s t : List ℕ}
         → AdmitsBy g ss cs at (taken p (drop 1 key)) r g2 s t → AdmitsBy g ss cs at (planFit g at p (admissionOf flags p word)) r g2 s t
@@ -367,18 +368,20 @@ module _ (n : Node) (ss cs : List ℕ) (ed : Edition) (body : List ℕ) (i : ℕ
   unfolding planned
   plan-faulty why e = rw (← e)
 
-  pub plan-refused : (why : Placed) → lent.Fine ≡ lentOf n ss cs → checked.Refused why ≡ acceptOf (spoken ed) body → planned n ss cs ed body i word at ≡ no (admit.Refused why)
+  pub plan-refused : {mode : Mode} (why : Placed) → lent.Fine ≡ lentOf n ss cs → mode ≡ modeOf (n .cache .flags) → checked.Refused why ≡ acceptOf (spoken mode ed) body
+      → planned n ss cs ed body i word at ≡ no (admit.Refused why)
   unfolding planned
-  plan-refused why e f = rw (← e, ← f)
+  plan-refused why e m f = rw (← e, ← m, ← f)
 
-  pub plan-missing : (k : ℕ) → lent.Fine ≡ lentOf n ss cs → checked.Fine ≡ acceptOf (spoken ed) body → found.Count k ≡ messageAt body i → planned n ss cs ed body i word at ≡ no (admit.NoMessage k)
+  pub plan-missing : {mode : Mode} (k : ℕ) → lent.Fine ≡ lentOf n ss cs → mode ≡ modeOf (n .cache .flags) → checked.Fine ≡ acceptOf (spoken mode ed) body → found.Count k ≡ messageAt mode body i
+      → planned n ss cs ed body i word at ≡ no (admit.NoMessage k)
   unfolding planned
-  plan-missing k e f g = rw (← e, ← f, ← g)
+  plan-missing k e m f g = rw (← e, ← m, ← f, ← m, ← g)
 
-  pub plan-at : (a b : ℕ) → lent.Fine ≡ lentOf n ss cs → checked.Fine ≡ acceptOf (spoken ed) body → found.At a b ≡ messageAt body i
+  pub plan-at : {mode : Mode} (a b : ℕ) → lent.Fine ≡ lentOf n ss cs → mode ≡ modeOf (n .cache .flags) → checked.Fine ≡ acceptOf (spoken mode ed) body → found.At a b ≡ messageAt mode body i
       → planned n ss cs ed body i word at ≡ planFit n at (between body a b) (admissionOf (n .cache .flags) (between body a b) word)
   unfolding planned
-  plan-at a b e f g = rw (← e, ← f, ← g)
+  plan-at a b e m f g = rw (← e, ← m, ← f, ← m, ← g)
 
 -- ---- heartbeat
 module _ (n : Node) (ss cs : List ℕ) (at : ℕ) where

@@ -7,8 +7,9 @@ use native.Mathlib.Omega.{arith}
 use native.Mathlib.Nat.{zero-add, sub-zero}
 use lib.ListN.{length, drop, getD, length-append}
 use lib.Seq.{sets, take-length}
+use Rattle.basis.specs.declared.Mode.{Mode}
 use Rattle.basis.specs.declared.Edition.{Edition}
-use Rattle.basis.specs.Dialect.{spoken}
+use Rattle.basis.specs.Dialect.{modeOf, spoken}
 use Rattle.basis.specs.Cases.{either}
 use Rattle.basis.specs.Writing.{answer, written}
 use Rattle.basis.specs.Lists.{answer-fits, answer-short, written-fits, written-short}
@@ -205,19 +206,23 @@ module _ (at : ℕ) (r x : List ℕ) (y : x ≡ bytesField 3 (bytesField 2 r)) (
 pub whole-body : (s : List ℕ) → between s 0 (length s) ≡ s
 whole-body s = rw (sub-zero (length s)) (take-length s)
 
-module _ (path body : List ℕ) (few : length (atPath path body) ≤ 512) where
-  pub named-room : (0 + length (atPath path (between body 0 (length body)))) * 2 ≤ 1024
-  named-room = rw (whole-body body) (omega arith)
+pub few-as : {mode given : Mode} → mode ≡ given → (path body : List ℕ) → length (atPath mode path body) ≤ 512 → length (atPath given path body) ≤ 512
+few-as same path body h = rw (← same) h
 
-  module _ (t after : List ℕ) (n : ℕ) (e : partsIn body after n ≡ partsIn body t 0 ++ atPath path (between body 0 (length body))) where
-    pub named-is : partsIn body after n ≡ atPath path body
-    named-is = e ∙ rw (no-parts body t, whole-body body)
+-- in the mode that is given, which the code has found
+module _ {mode given : Mode} (same : mode ≡ given) (path body : List ℕ) (few : length (atPath given path body) ≤ 512) where
+  pub named-room : (0 + length (atPath mode path (between body 0 (length body)))) * 2 ≤ 1024
+  named-room = rw (whole-body body, same) (omega arith)
+
+  module _ (t after : List ℕ) (n : ℕ) (e : partsIn body after n ≡ partsIn body t 0 ++ atPath mode path (between body 0 (length body))) where
+    pub named-is : partsIn body after n ≡ atPath given path body
+    named-is = e ∙ rw (no-parts body t, whole-body body, same)
 
     pub named-few : n ≤ 512
     named-few = omega (arith, length-parts body after n, ap length named-is)
 
     -- each at its first mention
-    pub first-is : (to : List ℕ) (k : ℕ) → partsIn body to k ≡ once (partsIn body after n) → partsIn body to k ≡ once (atPath path body)
+    pub first-is : (to : List ℕ) (k : ℕ) → partsIn body to k ≡ once (partsIn body after n) → partsIn body to k ≡ once (atPath given path body)
     first-is to k f = f ∙ ap once named-is
 
     -- and no more of them
@@ -234,11 +239,11 @@ module _ (node : Node) (ss body out : List ℕ) where
   abbrev Answers : Ask → List ℕ → Type 0
   Answers r after = (r ≡ asked (answer (askBytes node ss body) out)) × (after ≡ written (askBytes node ss body) out)
 
-  module _ (first named : List ℕ) (k m : ℕ) (f : partsIn body first k ≡ once (atPath (3 ∷ 1 ∷ 2 ∷ []) body)) (u : partsIn body named m ≡ unseenFrom (node .cache .flags) (idsIn 129 (seenRing node) (node .seen .len) ss) (partsIn body first k)) where
+  module _ (first named : List ℕ) (k m : ℕ) (f : partsIn body first k ≡ once (atPath (modeOf (node .cache .flags)) (3 ∷ 1 ∷ 2 ∷ []) body)) (u : partsIn body named m ≡ unseenFrom (node .cache .flags) (idsIn 129 (seenRing node) (node .seen .len) ss) (partsIn body first k)) where
     abbrev ids : List (List ℕ)
     ids = partsIn body named m
 
-    lacking-is : unseenOf node ss (offered body) ≡ ids
+    lacking-is : unseenOf node ss (offered (modeOf (node .cache .flags)) body) ≡ ids
     unfolding unseenOf offered
     lacking-is = sym (u ∙ ap (unseenFrom (node .cache .flags) (idsIn 129 (seenRing node) (node .seen .len) ss)) f)
 
@@ -280,11 +285,14 @@ module _ (node : Node) (ss cs : List ℕ) (ed : Edition) (body out : List ℕ) (
   unfolding askAnswer askLeft
   asks-faulty why h = rw (sym lent-is ∙ h) (refl, refl)
 
-  module _ (fine : l ≡ lent.Fine) (c : Checked) (body-is : c ≡ acceptOf (spoken ed) body) where
+  module _ (fine : l ≡ lent.Fine) {mode : Mode} (same : mode ≡ modeOf (node .cache .flags)) (c : Checked) (body-is : c ≡ acceptOf (spoken mode ed) body) where
+    taken-as : acceptOf (spoken (modeOf (node .cache .flags)) ed) body ≡ c
+    taken-as = rw (← same) (sym body-is)
+
     pub asks-refused : (why : Placed) → c ≡ checked.Refused why → Asks (ask.Refused why) out
     unfolding askAnswer askLeft
-    asks-refused why h = rw (sym lent-is ∙ fine, sym body-is ∙ h) (refl, refl)
+    asks-refused why h = rw (sym lent-is ∙ fine, taken-as ∙ h) (refl, refl)
 
     pub asks-done : c ≡ checked.Fine → (r : Ask) (after : List ℕ) → r ≡ asked (answer (askBytes node ss body) out) → after ≡ written (askBytes node ss body) out → Asks r after
     unfolding askAnswer askLeft
-    asks-done h r after e f = rw (sym lent-is ∙ fine, sym body-is ∙ h) (e, f)
+    asks-done h r after e f = rw (sym lent-is ∙ fine, taken-as ∙ h) (e, f)

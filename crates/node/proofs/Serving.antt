@@ -9,9 +9,10 @@ use lib.ListN.{length, take, drop, getD}
 use lib.Seq.{sets}
 use lib.Dec.{ltb}
 use borrow.Author.Tests.{lt-ltb, le-ltb, ltb-true}
+use Rattle.basis.specs.declared.Mode.{Mode}
 use Rattle.basis.specs.declared.Edition.{Edition}
 use Rattle.basis.specs.declared.Edition.the-variants.{V12}
-use Rattle.basis.specs.Dialect.{spoken}
+use Rattle.basis.specs.Dialect.{modeOf, spoken}
 use Rattle.basis.specs.Cases.{either}
 use Rattle.rows.specs.declared.Ring.{Ring}
 use Rattle.rows.specs.Rows.{placeOf}
@@ -134,14 +135,14 @@ pub kept-size : (c : MessageCache) (cs : List ℕ) → Usable c cs → length cs
 kept-size c cs k = let r = k .rows in omega arith
 
 -- those that it names, but for those that a second one declines
-pub rest-is : (body second first named : List ℕ) (k r : ℕ) → partsIn body first k ≡ once (atPath (3 ∷ 2 ∷ 1 ∷ []) body)
-    → partsIn body named r ≡ without (unwantedIn second) (partsIn body first k) → partsIn body named r ≡ remaining body second
+pub rest-is : {mode given : Mode} → mode ≡ given → (body second first named : List ℕ) (k r : ℕ) → partsIn body first k ≡ once (atPath given (3 ∷ 2 ∷ 1 ∷ []) body)
+    → partsIn body named r ≡ without (unwantedIn mode second) (partsIn body first k) → partsIn body named r ≡ remaining given body second
 unfolding remaining wanted
-rest-is body second first named k r f u = u ∙ ap (without (unwantedIn second)) f
+rest-is same body second first named k r f u = u ∙ rw (same, f)
 
-pub messages-are : (c : MessageCache) (cs body second named found : List ℕ) (r m : ℕ) → partsIn body named r ≡ remaining body second
+pub messages-are : (c : MessageCache) (cs body second named found : List ℕ) (r m : ℕ) → partsIn body named r ≡ remaining (modeOf (c .flags)) body second
     → ((st : List ℕ) → partsIn st found m ≡ map (messageIn (c .len) st) (rowsFor (ringOf c) (idsIn 128 (ringOf c) (c .«id_len») (c .ids)) (partsIn body named r)))
-    → cachedOf c cs (remaining body second) ≡ partsIn cs found m
+    → cachedOf c cs (remaining (modeOf (c .flags)) body second) ≡ partsIn cs found m
 unfolding cachedOf
 messages-are c cs body second named found r m f u =
     sym (u cs ∙ ap (λ (l : List (List ℕ)). map (messageIn (c .len) cs) (rowsFor (ringOf c) (idsIn 128 (ringOf c) (c .«id_len») (c .ids)) l)) f)
@@ -202,16 +203,19 @@ module _ (ms : List (List ℕ)) (cs t : List ℕ) (m : ℕ) (out : List ℕ) (q 
           )
 
 -- ---- the second body, which is read in 1.2
-module _ (ms : List (List ℕ)) (second out : List ℕ) where
+module _ (given : Mode) (ms : List (List ℕ)) (second out : List ℕ) where
   abbrev pub Tried : Serve → List ℕ → Type 0
-  Tried r after = (r ≡ serveOn (replyTo ms out) (acceptOf (spoken V12) second)) × (after ≡ whenTaken (acceptOf (spoken V12) second) (sets out 0 (replyBytes ms out)) out)
+  Tried r after = (r ≡ serveOn (replyTo ms out) (acceptOf (spoken given V12) second)) × (after ≡ whenTaken (acceptOf (spoken given V12) second) (sets out 0 (replyBytes ms out)) out)
 
-  module _ (c : Checked) (second-is : c ≡ acceptOf (spoken V12) second) where
+  module _ {mode : Mode} (same : mode ≡ given) (c : Checked) (second-is : c ≡ acceptOf (spoken mode V12) second) where
+    second-as : acceptOf (spoken given V12) second ≡ c
+    second-as = rw (← same) (sym second-is)
+
     pub tried-refused : (why : Placed) → c ≡ checked.Refused why → Tried (serve.Refused why) out
-    tried-refused why h = rw (sym second-is ∙ h) (refl, refl)
+    tried-refused why h = rw (second-as ∙ h) (refl, refl)
 
     pub tried-done : c ≡ checked.Fine → (r : Serve) (after : List ℕ) → Replies ms out r after → Tried r after
-    tried-done h r after e = rw (sym second-is ∙ h) e
+    tried-done h r after e = rw (second-as ∙ h) e
 
 -- ---- the whole call: the lent node and its stores, then the bodies
 module _ (node : Node) (ss cs : List ℕ) (ed : Edition) (body second out : List ℕ) (l : Lent) (lent-is : l ≡ lentOf node ss cs) where
@@ -222,11 +226,14 @@ module _ (node : Node) (ss cs : List ℕ) (ed : Edition) (body second out : List
   unfolding serveAnswer serveLeft
   serves-faulty why h = rw (sym lent-is ∙ h) (refl, refl)
 
-  module _ (fine : l ≡ lent.Fine) (c : Checked) (body-is : c ≡ acceptOf (spoken ed) body) where
+  module _ (fine : l ≡ lent.Fine) {mode : Mode} (same : mode ≡ modeOf (node .cache .flags)) (c : Checked) (body-is : c ≡ acceptOf (spoken mode ed) body) where
+    body-as : acceptOf (spoken (modeOf (node .cache .flags)) ed) body ≡ c
+    body-as = rw (← same) (sym body-is)
+
     pub serves-refused : (why : Placed) → c ≡ checked.Refused why → Serves (serve.Refused why) out
     unfolding serveAnswer serveLeft
-    serves-refused why h = rw (sym lent-is ∙ fine, sym body-is ∙ h) (refl, refl)
+    serves-refused why h = rw (sym lent-is ∙ fine, body-as ∙ h) (refl, refl)
 
-    pub serves-done : c ≡ checked.Fine → (r : Serve) (after : List ℕ) → Tried (cachedOf (node .cache) cs (remaining body second)) second out r after → Serves r after
+    pub serves-done : c ≡ checked.Fine → (r : Serve) (after : List ℕ) → Tried (modeOf (node .cache .flags)) (cachedOf (node .cache) cs (remaining (modeOf (node .cache .flags)) body second)) second out r after → Serves r after
     unfolding serveAnswer serveLeft
-    serves-done h r after e = rw (sym lent-is ∙ fine, sym body-is ∙ h) e
+    serves-done h r after e = rw (sym lent-is ∙ fine, body-as ∙ h) e

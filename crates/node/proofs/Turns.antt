@@ -8,6 +8,7 @@ use native.Mathlib.Omega.{arith}
 use lib.ListN.{length, take, drop, getD, length-append, length-drop}
 use lib.Seq.{sets, take-all}
 use borrow.Author.Tests.{eq-eqb, ne-eqb}
+use Rattle.basis.specs.declared.Mode.{Mode}
 use Rattle.rows.specs.Ids.{sameBytes, among}
 use Rattle.rows.specs.IdsLaws.{among-more, among-here, among-none}
 use Rattle.peer_id.specs.Uvarint.{uvarint}
@@ -137,14 +138,14 @@ module _ (x s t : List ℕ) (k j : ℕ) (inv : among x (drop j (partsIn s t k)) 
   look-none h = sym (among-none x (drop j (partsIn s t k)) (among x (partsIn s t k)) (parts-end s t k j h) inv)
 
 -- ---- the parts at a path in one field
-module _ (path s : List ℕ) (f : Field) where
-  pub field-yes : f .«wire_type» ≡ 2 → f .field ≡ getD path 0 0 → fieldParts path s f ≡ atPath (drop 1 path) (valueIn s f)
+module _ (mode : Mode) (path s : List ℕ) (f : Field) where
+  pub field-yes : f .«wire_type» ≡ 2 → f .field ≡ getD path 0 0 → fieldParts mode path s f ≡ atPath mode (drop 1 path) (valueIn s f)
   field-yes p q = simp (eq-eqb _ _ p, eq-eqb _ _ q)
 
-  pub field-no : (f .«wire_type» ≡ 2 → ⊥) → fieldParts path s f ≡ []
+  pub field-no : (f .«wire_type» ≡ 2 → ⊥) → fieldParts mode path s f ≡ []
   field-no p = simp (ne-eqb _ _ p)
 
-  pub field-other : f .«wire_type» ≡ 2 → (f .field ≡ getD path 0 0 → ⊥) → fieldParts path s f ≡ []
+  pub field-other : f .«wire_type» ≡ 2 → (f .field ≡ getD path 0 0 → ⊥) → fieldParts mode path s f ≡ []
   field-other p q = simp (eq-eqb _ _ p, ne-eqb _ _ q)
 
 -- the path after its first field
@@ -163,56 +164,56 @@ module _ (s : List ℕ) (b z : ℕ) (path : List ℕ) (f : Field) (w : FieldWith
   field-inside = let o = w .order in let i = w .fits in let l = inner-size in (omega arith, omega arith)
 
   -- and its parts are those of the bytes there
-  pub field-there : f .«wire_type» ≡ 2 → f .field ≡ getD path 0 0 → fieldParts path (between s b z) f ≡ atPath (take (length path - 1) (drop 1 path)) (between s (b + f .start) (b + f .next))
-  field-there p q =
-      field-yes path (between s b z) f p q
-      ∙ ap₂ atPath (sym (tail-is path)) (between-between s b z (f .start) (f .next) (w .order) (w .fits))
+  pub field-there : (mode : Mode) → f .«wire_type» ≡ 2 → f .field ≡ getD path 0 0 → fieldParts mode path (between s b z) f ≡ atPath mode (take (length path - 1) (drop 1 path)) (between s (b + f .start) (b + f .next))
+  field-there mode p q =
+      field-yes mode path (between s b z) f p q
+      ∙ ap₂ (atPath mode) (sym (tail-is path)) (between-between s b z (f .start) (f .next) (w .order) (w .fits))
 
 -- no part more
 pub none-more : (s t : List ℕ) (n : ℕ) (xs : List (List ℕ)) → xs ≡ [] → partsIn s t n ≡ partsIn s t n ++ xs
 none-more s t n xs e = rw e (sym (append-nil (partsIn s t n)))
 
 -- a path that ends here: one part more
-module _ (s path t : List ℕ) (n a e : ℕ) (z : length path ≡ 0) (room : (n + length (atPath path (between s a e))) * 2 ≤ length t) where
+module _ (mode : Mode) (s path t : List ℕ) (n a e : ℕ) (z : length path ≡ 0) (room : (n + length (atPath mode path (between s a e))) * 2 ≤ length t) where
   pub one-room : (n + 1) * 2 ≤ length t
-  one-room = omega (arith, ap length (path-none path (between s a e) z))
+  one-room = omega (arith, ap length (path-none mode path (between s a e) z))
 
-  pub one-more : Parts s t n → (a ≤ e) × (e ≤ length s) → (r : ℕ) (after : List ℕ) → r ≡ n + 1 → after ≡ sets t (n * 2) (a ∷ e ∷ []) → (partsIn s after r ≡ partsIn s t n ++ atPath path (between s a e)) × Parts s after r
+  pub one-more : Parts s t n → (a ≤ e) × (e ≤ length s) → (r : ℕ) (after : List ℕ) → r ≡ n + 1 → after ≡ sets t (n * 2) (a ∷ e ∷ []) → (partsIn s after r ≡ partsIn s t n ++ atPath mode path (between s a e)) × Parts s after r
   one-more p c r after er ea =
       rw (er, ea) (
-        parts-more t n a e one-room s ∙ ap (λ (l : List (List ℕ)). partsIn s t n ++ l) (sym (path-none path (between s a e) z)),
+        parts-more t n a e one-room s ∙ ap (λ (l : List (List ℕ)). partsIn s t n ++ l) (sym (path-none mode path (between s a e) z)),
         parts-within-more t n a e one-room s p (c .0) (c .1),
       )
 
 -- ---- the parts in the table, and then those in the fields from `at` on, are all that are to be in it
-pub record Walked (s : List ℕ) (b z : ℕ) (path t₀ : List ℕ) (n : ℕ) (t : List ℕ) (at k : ℕ) : Type 0 where
+pub record Walked (mode : Mode) (s : List ℕ) (b z : ℕ) (path t₀ : List ℕ) (n : ℕ) (t : List ℕ) (at k : ℕ) : Type 0 where
   pub parts : Parts s t k
-  pub goes : partsIn s t k ++ restAt path (between s b z) at ≡ partsIn s t₀ n ++ atPath path (between s b z)
+  pub goes : partsIn s t k ++ restAt mode path (between s b z) at ≡ partsIn s t₀ n ++ atPath mode path (between s b z)
 
-pub walked-all : (s : List ℕ) (b z : ℕ) (path t : List ℕ) (n : ℕ) → Parts s t n → (length path ≡ 0 → ⊥) → Walked s b z path t n t 0 n
-walked-all s b z path t n p h =
-    record { parts = p; goes = ap (λ (l : List (List ℕ)). partsIn s t n ++ l) (path-all path (between s b z) (omega (arith, h))) }
+pub walked-all : (mode : Mode) (s : List ℕ) (b z : ℕ) (path t : List ℕ) (n : ℕ) → Parts s t n → (length path ≡ 0 → ⊥) → Walked mode s b z path t n t 0 n
+walked-all mode s b z path t n p h =
+    record { parts = p; goes = ap (λ (l : List (List ℕ)). partsIn s t n ++ l) (path-all mode path (between s b z) (omega (arith, h))) }
 
-module _ (s : List ℕ) (b z : ℕ) (path t₀ : List ℕ) (n : ℕ) (t : List ℕ) (at k : ℕ) (g : Walked s b z path t₀ n t at k) where
-  pub walked-done : restAt path (between s b z) at ≡ [] → (partsIn s t k ≡ partsIn s t₀ n ++ atPath path (between s b z)) × Parts s t k
+module _ (mode : Mode) (s : List ℕ) (b z : ℕ) (path t₀ : List ℕ) (n : ℕ) (t : List ℕ) (at k : ℕ) (g : Walked mode s b z path t₀ n t at k) where
+  pub walked-done : restAt mode path (between s b z) at ≡ [] → (partsIn s t k ≡ partsIn s t₀ n ++ atPath mode path (between s b z)) × Parts s t k
   walked-done e = (none-more s t k _ e ∙ g .goes, g .parts)
 
-  module _ (f : Field) (e : step.At f ≡ readField (between s b z) at) where
-    goes-field : partsIn s t k ++ (fieldParts path (between s b z) f ++ restAt path (between s b z) (f .next)) ≡ partsIn s t₀ n ++ atPath path (between s b z)
-    goes-field = ap (λ (l : List (List ℕ)). partsIn s t k ++ l) (sym (path-field path (between s b z) at f e)) ∙ g .goes
+  module _ (f : Field) (e : step.At f ≡ readField mode (between s b z) at) where
+    goes-field : partsIn s t k ++ (fieldParts mode path (between s b z) f ++ restAt mode path (between s b z) (f .next)) ≡ partsIn s t₀ n ++ atPath mode path (between s b z)
+    goes-field = ap (λ (l : List (List ℕ)). partsIn s t k ++ l) (sym (path-field mode path (between s b z) at f e)) ∙ g .goes
 
-    pub walked-room : length t ≡ length t₀ → (n + length (atPath path (between s b z))) * 2 ≤ length t₀ → (k + length (fieldParts path (between s b z) f)) * 2 ≤ length t
+    pub walked-room : length t ≡ length t₀ → (n + length (atPath mode path (between s b z))) * 2 ≤ length t₀ → (k + length (fieldParts mode path (between s b z) f)) * 2 ≤ length t
     walked-room q r =
-        let x = fieldParts path (between s b z) f in
-        let y = restAt path (between s b z) (f .next) in
-        omega (arith, ap length goes-field, length-append (partsIn s t k) (x ++ y), length-append x y, length-append (partsIn s t₀ n) (atPath path (between s b z)), length-parts s t k, length-parts s t₀ n)
+        let x = fieldParts mode path (between s b z) f in
+        let y = restAt mode path (between s b z) (f .next) in
+        omega (arith, ap length goes-field, length-append (partsIn s t k) (x ++ y), length-append x y, length-append (partsIn s t₀ n) (atPath mode path (between s b z)), length-parts s t k, length-parts s t₀ n)
 
-    pub walked-turn : (r : ℕ) (after : List ℕ) → partsIn s after r ≡ partsIn s t k ++ fieldParts path (between s b z) f → Parts s after r → Walked s b z path t₀ n after (f .next) r
+    pub walked-turn : (r : ℕ) (after : List ℕ) → partsIn s after r ≡ partsIn s t k ++ fieldParts mode path (between s b z) f → Parts s after r → Walked mode s b z path t₀ n after (f .next) r
     walked-turn r after m p =
         record {
           parts = p;
           goes =
-              ap (λ (l : List (List ℕ)). l ++ restAt path (between s b z) (f .next)) m
-              ∙ append-assoc (partsIn s t k) (fieldParts path (between s b z) f) (restAt path (between s b z) (f .next))
+              ap (λ (l : List (List ℕ)). l ++ restAt mode path (between s b z) (f .next)) m
+              ∙ append-assoc (partsIn s t k) (fieldParts mode path (between s b z) f) (restAt mode path (between s b z) (f .next))
               ∙ goes-field;
         }

@@ -130,9 +130,10 @@ planFit n at p (admission.Fit a e b f) =
 -- 20
 abbrev pub planAt : Node → ℕ → Bool → List ℕ → MessageAt → Plan
 planAt n at word body (found.Count k) = no (admit.NoMessage k)
-planAt n at word body (found.At a e) = planFit n at (between body a e) (admissionOf (n .cache .flags) (between body a e) word)
+planAt n at word body (found.At a e) =
+    planFit n at (between body a e) (admissionOf (n .cache .flags) (between body a e) word)
 
--- 10, 1 to 7, 11
+-- 10, 1 to 7 and 14 to 16, 11
 abbrev pub planBody : Node → ℕ → Bool → List ℕ → ℕ → Checked → Plan
 planBody n at word body i (checked.Refused why) = no (admit.Refused why)
 planBody n at word body i checked.Fine = planAt n at word body (messageAt (modeOf (n .cache .flags)) body i)
@@ -153,23 +154,27 @@ heldAt n ss at form = heldIn (n .«max_seen») (swept n at) ss form
 
 abbrev pub admitAnswer : Node → List ℕ → ℕ → Plan → Admit
 admitAnswer n ss at (no r) = r
-admitAnswer n ss at (taken m id) = cond (heldAt n ss at (formOf (modeOf (n .cache .flags)) m id)) admit.Duplicate admit.New
+admitAnswer n ss at (taken m id) =
+    cond (heldAt n ss at (formOf (modeOf (n .cache .flags)) m id)) admit.Duplicate admit.New
 
 abbrev pub admitNode : Node → List ℕ → ℕ → Plan → Node
 admitNode n ss at (no r) = n
 admitNode n ss at (taken m id) =
     cond (heldAt n ss at (formOf (modeOf (n .cache .flags)) m id)) (laterNode at (swept n at) (n .cache) n)
-    (laterNode at (entered (n .«max_seen») (n .«max_seen») (length (formOf (modeOf (n .cache .flags)) m id)) (until at (n .ttl)) (swept n at))
+    (laterNode at (entered (n .«max_seen») (n .«max_seen») (length (formOf (modeOf (n .cache .flags)) m id))
+    (until at (n .ttl)) (swept n at))
     (keptUnder m id (n .cache)) n)
 
 abbrev pub admitSeen : Node → List ℕ → ℕ → Plan → List ℕ
 admitSeen n ss at (no r) = ss
 admitSeen n ss at (taken m id) =
-    cond (heldAt n ss at (formOf (modeOf (n .cache .flags)) m id)) ss (enteredStore (n .«max_seen») (n .«max_seen») (swept n at) ss (formOf (modeOf (n .cache .flags)) m id))
+    cond (heldAt n ss at (formOf (modeOf (n .cache .flags)) m id)) ss
+    (enteredStore (n .«max_seen») (n .«max_seen») (swept n at) ss (formOf (modeOf (n .cache .flags)) m id))
 
 abbrev pub admitCache : Node → List ℕ → List ℕ → ℕ → Plan → List ℕ
 admitCache n ss cs at (no r) = cs
-admitCache n ss cs at (taken m id) = cond (heldAt n ss at (formOf (modeOf (n .cache .flags)) m id)) cs (storedUnder (n .cache) cs m id)
+admitCache n ss cs at (taken m id) =
+    cond (heldAt n ss at (formOf (modeOf (n .cache .flags)) m id)) cs (storedUnder (n .cache) cs m id)
 
 -- ---- heartbeat: 40, 41, 42, 31
 unfoldable pub beatAnswer : Node → List ℕ → List ℕ → ℕ → Beat
@@ -219,7 +224,7 @@ explainAnswer n ss cs id topic windows =
     (cond (ltb 1024 (length topic)) (explain.TopicTooLong (length topic))
     (explain.Why (offerIn (n .cache) cs id topic windows)))
 
--- ---- ask: 40, 41, 42, 10, 1 to 7, 11, 12
+-- ---- ask: 40, 41, 42, 10, 1 to 7 and 14 to 16, 11, 12
 -- the ids in the IHAVEs of a body, each at its first mention
 unfoldable pub offered : Mode → List ℕ → List (List ℕ)
 offered mode body = once (atPath mode (3 ∷ 1 ∷ 2 ∷ []) body)
@@ -249,7 +254,8 @@ askOn r (checked.Refused why) = ask.Refused why
 
 unfoldable pub askAnswer : Node → List ℕ → List ℕ → Edition → List ℕ → List ℕ → Ask
 askAnswer n ss cs e body out =
-    onLent ask.Faulty (lentOf n ss cs) (askOn (asked (answer (askBytes n ss body) out)) (acceptOf (spoken (modeOf (n .cache .flags)) e) body))
+    onLent ask.Faulty (lentOf n ss cs)
+    (askOn (asked (answer (askBytes n ss body) out)) (acceptOf (spoken (modeOf (n .cache .flags)) e) body))
 
 abbrev pub whenTaken : {A : Type 0} → Checked → A → A → A
 whenTaken checked.Fine new old = new
@@ -257,9 +263,11 @@ whenTaken (checked.Refused why) new old = old
 
 unfoldable pub askLeft : Node → List ℕ → List ℕ → Edition → List ℕ → List ℕ → List ℕ
 askLeft n ss cs e body out =
-    whenFine (lentOf n ss cs) (whenTaken (acceptOf (spoken (modeOf (n .cache .flags)) e) body) (written (askBytes n ss body) out) out) out
+    whenFine (lentOf n ss cs)
+    (whenTaken (acceptOf (spoken (modeOf (n .cache .flags)) e) body) (written (askBytes n ss body) out) out) out
 
--- ---- serve: 40, 41, 42; 10, 1 to 7, 11 of the body that asks; the same of the second body, which is read in 1.2; 12
+-- ---- serve: 40, 41, 42; 10, 1 to 7 and 14 to 16, 11 of the body that asks; the same of the second body, which is read
+-- in 1.2; 12
 -- the ids in the IWANTs of a body, each at its first mention
 unfoldable pub wanted : Mode → List ℕ → List (List ℕ)
 wanted mode body = once (atPath mode (3 ∷ 2 ∷ 1 ∷ []) body)
@@ -311,7 +319,8 @@ unfoldable pub serveAnswer : Node → List ℕ → List ℕ → Edition → List
 serveAnswer n ss cs e body second out =
     onLent serve.Faulty (lentOf n ss cs)
     (serveOn
-    (serveOn (replyTo (cachedOf (n .cache) cs (remaining (modeOf (n .cache .flags)) body second)) out) (acceptOf (spoken (modeOf (n .cache .flags)) V12) second))
+    (serveOn (replyTo (cachedOf (n .cache) cs (remaining (modeOf (n .cache .flags)) body second)) out)
+    (acceptOf (spoken (modeOf (n .cache .flags)) V12) second))
     (acceptOf (spoken (modeOf (n .cache .flags)) e) body))
 
 unfoldable pub serveLeft : Node → List ℕ → List ℕ → Edition → List ℕ → List ℕ → List ℕ → List ℕ
@@ -319,4 +328,5 @@ serveLeft n ss cs e body second out =
     whenFine (lentOf n ss cs)
     (whenTaken (acceptOf (spoken (modeOf (n .cache .flags)) e) body)
     (whenTaken (acceptOf (spoken (modeOf (n .cache .flags)) V12) second)
-    (sets out 0 (replyBytes (cachedOf (n .cache) cs (remaining (modeOf (n .cache .flags)) body second)) out)) out) out) out
+    (sets out 0 (replyBytes (cachedOf (n .cache) cs (remaining (modeOf (n .cache .flags)) body second)) out)) out) out)
+    out

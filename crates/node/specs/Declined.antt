@@ -1,6 +1,6 @@
 -- Serve with a second body: the messages whose ids it declines are left out, and count neither as written nor as left;
 -- of the others that are named and cached each is one of both, in order. With an empty one it is the scope's serve.
-use Prim.Native.Nat.{ℕ, zero, suc}
+use Prim.Native.Nat.{ℕ}
 use mathlib.Core.Path.{_≡_, refl, sym, ap, ap₂, _∙_}
 use mathlib.Core.List.{List, [], _∷_, _++_, map}
 use mathlib.Core.Bool.{Bool, true, false, cond, not, _&&_, _||_, and-false}
@@ -8,22 +8,16 @@ use native.Mathlib.Omega.{arith}
 use lib.ListN.{take, drop, take-append-drop}
 use lib.Seq.{sets}
 use lib.Dec.{eqb}
-use Rattle.basis.specs.declared.Dialect.{Dialect}
+use Rattle.basis.specs.declared.Mode.{Mode}
 use Rattle.basis.specs.declared.Edition.{Edition}
 use Rattle.basis.specs.declared.Edition.the-variants.{V12}
-use Rattle.basis.specs.Dialect.{spoken}
-use Rattle.basis.specs.Cases.{either, clash, both}
+use Rattle.basis.specs.Dialect.{modeOf, spoken}
+use Rattle.basis.specs.Cases.{either, clash, both, neither}
 use Rattle.rows.specs.Ids.{sameBytes, among, distinct}
 use Rattle.rows.specs.IdsLaws.{same-self, same-equal, among-append}
-use Rattle.rows.specs.ListLaws.{map-drop}
-use Rattle.protobuf.specs.declared.Checked.the-variants.{Fine}
-use Rattle.protobuf.specs.WalkLaws.{walk-end}
-use Rattle.schema.specs.declared.Kind.the-variants as kind
-use Rattle.schema.specs.declared.Counted.the-variants.{Records}
-use Rattle.schema.specs.Count.{countAlong, counted}
-use Rattle.schema.specs.CountLaws.{count-along}
+use Rattle.rows.specs.ListLaws.{map-take, map-drop}
 use Rattle.schema.specs.Accept.{acceptOf}
-use Rattle.schema.specs.AcceptLaws.{taken-fine}
+use Rattle.schema.specs.AcceptLaws.{empty-taken}
 use Rattle.mcache.specs.Messages.{held, get}
 use Rattle.node.specs.declared.Node.{Node}
 use Rattle.node.specs.declared.Serve.{Serve}
@@ -40,38 +34,31 @@ use Rattle.node.specs.Calls.{replyBytes, replyTo, serveOn, serveAnswer, 
 unfoldable pub serveAnswerWas : Node → List ℕ → List ℕ → Edition → List ℕ → List ℕ → Serve
 serveAnswerWas n ss cs ed body out =
     onLent serve.Faulty (lentOf n ss cs)
-    (serveOn (replyTo (cachedOf (n .cache) cs (wanted body)) out) (acceptOf (spoken ed) body))
+    (serveOn (replyTo (cachedOf (n .cache) cs (wanted (modeOf (n .cache .flags)) body)) out)
+    (acceptOf (spoken (modeOf (n .cache .flags)) ed) body))
 
 unfoldable pub serveLeftWas : Node → List ℕ → List ℕ → Edition → List ℕ → List ℕ → List ℕ
 serveLeftWas n ss cs ed body out =
     whenFine (lentOf n ss cs)
-    (whenTaken (acceptOf (spoken ed) body) (sets out 0 (replyBytes (cachedOf (n .cache) cs (wanted body)) out)) out) out
+    (whenTaken (acceptOf (spoken (modeOf (n .cache .flags)) ed) body)
+    (sets out 0 (replyBytes (cachedOf (n .cache) cs (wanted (modeOf (n .cache .flags)) body)) out)) out) out
 
--- it is taken, and declines nothing
-pub empty-taken : (d : Dialect) → acceptOf d [] ≡ Fine
-empty-taken d =
-    taken-fine d []
-    (record {
-      records = 0;
-      counts = count-along (kind.Rpc d) [] ∙ ap (countAlong counted (kind.Rpc d) []) (walk-end [] 0 (omega arith));
-      few = omega arith;
-      small = omega arith;
-    })
-
-pub empty-declines : unwantedIn [] ≡ []
+-- it is taken (`empty-taken`), and declines nothing
+pub empty-declines : (mode : Mode) → unwantedIn mode [] ≡ []
 unfolding unwantedIn
-empty-declines =
-    sym (path-all (3 ∷ 5 ∷ 1 ∷ []) [] (omega arith)) ∙ path-done (3 ∷ 5 ∷ 1 ∷ []) [] 0 (omega arith)
+empty-declines mode =
+    sym (path-all mode (3 ∷ 5 ∷ 1 ∷ []) [] (omega arith)) ∙ path-done mode (3 ∷ 5 ∷ 1 ∷ []) [] 0 (omega arith)
 
-pub all-remain : (body : List ℕ) → remaining body [] ≡ wanted body
+pub all-remain : (mode : Mode) (body : List ℕ) → remaining mode body [] ≡ wanted mode body
 unfolding remaining
-all-remain body = rw (empty-declines, without-none (wanted body))
+all-remain mode body = rw (empty-declines mode, without-none (wanted mode body))
 
 pub serve-plain : (n : Node) (ss cs : List ℕ) (ed : Edition) (body out : List ℕ)
     → (serveAnswer n ss cs ed body [] out ≡ serveAnswerWas n ss cs ed body out)
     × (serveLeft n ss cs ed body [] out ≡ serveLeftWas n ss cs ed body out)
 unfolding serveAnswer serveLeft serveAnswerWas serveLeftWas
-serve-plain n ss cs ed body out = rw (empty-taken (spoken V12), all-remain body) (refl, refl)
+serve-plain n ss cs ed body out =
+    let mode = modeOf (n .cache .flags) in rw (empty-taken (spoken mode V12), all-remain mode body) (refl, refl)
 
 -- of a gateway
 pub serve-of-plain : (named : List (List ℕ)) (buffer : ℕ) (g : Gateway)
@@ -104,11 +91,6 @@ having-cached g (i ∷ is) =
     either (held i (g .cache))
     (λ t. rw t (ap (λ (l : List (List ℕ)). get i (g .cache) ∷ l) (having-cached g is)))
     (λ t. rw t (having-cached g is))
-
-map-take : (f : List ℕ → List ℕ) (k : ℕ) (l : List (List ℕ)) → map f (take k l) ≡ take k (map f l)
-map-take f zero l = refl
-map-take f (suc k) [] = refl
-map-take f (suc k) (x ∷ l) = ap (λ (m : List (List ℕ)). f x ∷ m) (map-take f k l)
 
 -- the messages of some ids, the first k of them and the others
 module _ (g : Gateway) (named unwanted : List (List ℕ)) where
@@ -173,11 +155,6 @@ and-or true true false = refl
 and-or true false true = refl
 and-or true false false = refl
 and-or false b c = refl
-
-neither : (a b : Bool) → (a || b) ≡ false → (a ≡ false) × (b ≡ false)
-neither true b h = clash (cc)
-neither false true h = clash (cc)
-neither false false h = (refl, refl)
 
 module _ {g : Gateway} {named unwanted ws ls : List (List ℕ)} (r : ByIds g named unwanted ws ls) where
   -- an id is of one of both exactly where it is named and cached, and not unwanted

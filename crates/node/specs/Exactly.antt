@@ -12,7 +12,7 @@ use borrow.Author.Tests.{leb-true, leb-false, lt-leb, ltb-true, ltb-false, lt-lt
 use borrow.Author.Tests.{ne-eqb}
 use Rattle.basis.specs.declared.Edition.{Edition}
 use Rattle.basis.specs.declared.Edition.the-variants.{V12}
-use Rattle.basis.specs.Dialect.{spoken}
+use Rattle.basis.specs.Dialect.{modeOf, spoken}
 use Rattle.basis.specs.Cases.{either, clash}
 use Rattle.basis.specs.declared.Told.{Told}
 use Rattle.basis.specs.Refusals.{bad-setting, bad-store, malformed, clock-back, short-room}
@@ -181,7 +181,8 @@ module _ (n : Node) (ss cs : List ℕ) where
     fit-below p (admission.Unfit why) = omega (arith, unfit-range why .1)
     fit-below p (admission.Fit a e b f) =
         either (ltb at (n .clock)) (λ t. rw t (omega arith))
-        (λ t. rw t (either (heldAt n ss at (formOf p (idBytes p a e b f))) (λ u. rw u (omega arith)) (λ u. rw u (omega arith))))
+        (λ t. rw t (either (heldAt n ss at (formOf (modeOf (n .cache .flags)) p (idBytes p a e b f)))
+        (λ u. rw u (omega arith)) (λ u. rw u (omega arith))))
 
     at-below : (r : MessageAt) → admitTold (admitAnswer n ss at (planAt n at word body r)) .number < bad-setting
     at-below (found.Count k) = omega arith
@@ -189,7 +190,7 @@ module _ (n : Node) (ss cs : List ℕ) where
 
     body-below : (r : Checked) → admitTold (admitAnswer n ss at (planBody n at word body i r)) .number < bad-setting
     body-below (checked.Refused why) = omega (arith, wire-range (why .why) .1)
-    body-below checked.Fine = at-below (messageAt body i)
+    body-below checked.Fine = at-below (messageAt (modeOf (n .cache .flags)) body i)
 
     admit-faulty : (why : Fault) → lentOf n ss cs ≡ lent.Faulty why
         → admitTold (admitAnswer n ss at (planned n ss cs ed body i word at)) .number ≡ faultTold why .number
@@ -199,7 +200,7 @@ module _ (n : Node) (ss cs : List ℕ) where
     admit-below : lentOf n ss cs ≡ lent.Fine
         → admitTold (admitAnswer n ss at (planned n ss cs ed body i word at)) .number < bad-setting
     unfolding planned
-    admit-below e = rw e (body-below (acceptOf (spoken ed) body))
+    admit-below e = rw e (body-below (acceptOf (spoken (modeOf (n .cache .flags)) ed) body))
 
     pub admit-faults : (k : ℕ) → bad-setting ≤ k
         → (admitTold (admitAnswer n ss at (planned n ss cs ed body i word at)) .number ≡ k)
@@ -270,7 +271,7 @@ module _ (n : Node) (ss cs : List ℕ) where
     unfolding askAnswer
     ask-faulty why e = rw e
 
-    ask-on : (r : Checked) → lentOf n ss cs ≡ lent.Fine → acceptOf (spoken ed) body ≡ r
+    ask-on : (r : Checked) → lentOf n ss cs ≡ lent.Fine → acceptOf (spoken (modeOf (n .cache .flags)) ed) body ≡ r
         → askTold (askAnswer n ss cs ed body out) .number < bad-setting
     unfolding askAnswer answer
     ask-on (checked.Refused why) e a = rw (e, a) (omega (arith, wire-range (why .why) .1))
@@ -280,7 +281,8 @@ module _ (n : Node) (ss cs : List ℕ) where
 
     pub ask-faults : (k : ℕ) → bad-setting ≤ k
         → (askTold (askAnswer n ss cs ed body out) .number ≡ k) ↔ (lentTold (lentOf n ss cs) .number ≡ k)
-    ask-faults k h = as-lent (lentOf n ss cs) _ k ask-faulty (λ e. ask-on (acceptOf (spoken ed) body) e refl) h
+    ask-faults k h = as-lent (lentOf n ss cs) _ k ask-faulty
+        (λ e. ask-on (acceptOf (spoken (modeOf (n .cache .flags)) ed) body) e refl) h
 
   module _ (ed : Edition) (body second out : List ℕ) where
     serve-faulty : (why : Fault) → lentOf n ss cs ≡ lent.Faulty why
@@ -292,19 +294,22 @@ module _ (n : Node) (ss cs : List ℕ) where
     reply-below (sent ws ls) = omega arith
     reply-below (short needed) = omega arith
 
-    serve-on : (r q : Checked) → lentOf n ss cs ≡ lent.Fine → acceptOf (spoken ed) body ≡ r
-        → acceptOf (spoken V12) second ≡ q → serveTold (serveAnswer n ss cs ed body second out) .number < bad-setting
+    serve-on : (r q : Checked) → lentOf n ss cs ≡ lent.Fine → acceptOf (spoken (modeOf (n .cache .flags)) ed) body ≡ r
+        → acceptOf (spoken (modeOf (n .cache .flags)) V12) second ≡ q
+        → serveTold (serveAnswer n ss cs ed body second out) .number < bad-setting
     unfolding serveAnswer
     serve-on (checked.Refused why) q e a b = rw (e, a) (omega (arith, wire-range (why .why) .1))
     serve-on checked.Fine (checked.Refused why) e a b = rw (e, a, b) (omega (arith, wire-range (why .why) .1))
     serve-on checked.Fine checked.Fine e a b =
-        rw (e, a, b) (reply-below (replyFor (roomOf out) (cachedOf (n .cache) cs (remaining body second))))
+        rw (e, a, b) (reply-below (replyFor (roomOf out)
+        (cachedOf (n .cache) cs (remaining (modeOf (n .cache .flags)) body second))))
 
     pub serve-faults : (k : ℕ) → bad-setting ≤ k
         → (serveTold (serveAnswer n ss cs ed body second out) .number ≡ k) ↔ (lentTold (lentOf n ss cs) .number ≡ k)
     serve-faults k h =
         as-lent (lentOf n ss cs) _ k serve-faulty
-        (λ e. serve-on (acceptOf (spoken ed) body) (acceptOf (spoken V12) second) e refl refl) h
+        (λ e. serve-on (acceptOf (spoken (modeOf (n .cache .flags)) ed) body)
+        (acceptOf (spoken (modeOf (n .cache .flags)) V12) second) e refl refl) h
 
 -- ---- a heartbeat, whole: 40, 41, 42; 31 where now is below the clock, with the clock; else it is done
 pub data BeatTells (n : Node) (ss cs : List ℕ) (at : ℕ) : Told → Type 0 where
@@ -339,21 +344,26 @@ FirstFits room (m ∷ ms) = length (bytesField 2 m) ≤ room
 -- nothing is refused before 12
 pub record Passes (n : Node) (ss cs : List ℕ) (ed : Edition) (body second : List ℕ) : Type 0 where
   pub fine : lentOf n ss cs ≡ lent.Fine
-  pub asks : acceptOf (spoken ed) body ≡ checked.Fine
-  pub declines : acceptOf (spoken V12) second ≡ checked.Fine
+  pub asks : acceptOf (spoken (modeOf (n .cache .flags)) ed) body ≡ checked.Fine
+  pub declines : acceptOf (spoken (modeOf (n .cache .flags)) V12) second ≡ checked.Fine
 
 pub data ServeTells (n : Node) (ss cs : List ℕ) (ed : Edition) (body second out : List ℕ) : Told → Type 0 where
   node-faulty : {why : Fault} → lentOf n ss cs ≡ lent.Faulty why
       → ServeTells n ss cs ed body second out (faultTold why)
-  body-refused : {why : Placed} → lentOf n ss cs ≡ lent.Fine → acceptOf (spoken ed) body ≡ checked.Refused why
+  body-refused : {why : Placed} → lentOf n ss cs ≡ lent.Fine
+      → acceptOf (spoken (modeOf (n .cache .flags)) ed) body ≡ checked.Refused why
       → ServeTells n ss cs ed body second out (refusalTold why)
-  second-refused : {why : Placed} → lentOf n ss cs ≡ lent.Fine → acceptOf (spoken ed) body ≡ checked.Fine
-      → acceptOf (spoken V12) second ≡ checked.Refused why → ServeTells n ss cs ed body second out (refusalTold why)
+  second-refused : {why : Placed} → lentOf n ss cs ≡ lent.Fine
+      → acceptOf (spoken (modeOf (n .cache .flags)) ed) body ≡ checked.Fine
+      → acceptOf (spoken (modeOf (n .cache .flags)) V12) second ≡ checked.Refused why
+      → ServeTells n ss cs ed body second out (refusalTold why)
   first-short : Passes n ss cs ed body second → {m : List ℕ} {ms : List (List ℕ)}
-      → having (gatewayIn n ss cs) (remaining body second) ≡ m ∷ ms → replyRoom (length out) < length (bytesField 2 m)
+      → having (gatewayIn n ss cs) (remaining (modeOf (n .cache .flags)) body second) ≡ m ∷ ms
+      → replyRoom (length out) < length (bytesField 2 m)
       → ServeTells n ss cs ed body second out (told short-room (length (bytesField 2 m) ∷ []))
   replies : Passes n ss cs ed body second → {ms : List (List ℕ)}
-      → having (gatewayIn n ss cs) (remaining body second) ≡ ms → FirstFits (replyRoom (length out)) ms
+      → having (gatewayIn n ss cs) (remaining (modeOf (n .cache .flags)) body second) ≡ ms
+      → FirstFits (replyRoom (length out)) ms
       → ServeTells n ss cs ed body second out
       (done
       (length (repeated (bytesField 2) (sentIn (replyRoom (length out)) ms))
@@ -382,7 +392,8 @@ module _ (n : Node) (ss cs : List ℕ) (ed : Edition) (body second out : List �
   Tells = ServeTells n ss cs ed body second out
 
   by-messages : Passes n ss cs ed body second → (ms : List (List ℕ))
-      → having (gatewayIn n ss cs) (remaining body second) ≡ ms → Tells (serveTold (replyTo ms out))
+      → having (gatewayIn n ss cs) (remaining (modeOf (n .cache .flags)) body second) ≡ ms
+      → Tells (serveTold (replyTo ms out))
   unfolding roomOf fitting
   by-messages p [] h = replies p h tt
   by-messages p (m ∷ ms) h =
@@ -411,12 +422,21 @@ module _ (n : Node) (ss cs : List ℕ) (ed : Edition) (body second out : List �
 
   -- where nothing is refused before, the reply
   passes-reply : Passes n ss cs ed body second
-      → serveAnswer n ss cs ed body second out ≡ replyTo (having (gatewayIn n ss cs) (remaining body second)) out
+      → serveAnswer n ss cs ed body second out ≡ replyTo
+      (having (gatewayIn n ss cs) (remaining (modeOf (n .cache .flags)) body second)) out
   unfolding serveAnswer
-  passes-reply p = rw (p .fine, p .asks, p .declines, cached-gateway n ss cs (remaining body second))
+  passes-reply p = rw (
+    p .fine,
+    p .asks,
+    p .declines,
+    cached-gateway n ss cs
+        (remaining (modeOf (n .cache .flags)) body second),
+  )
 
-  serve-tells : (l : Lent) (r q : Checked) → lentOf n ss cs ≡ l → acceptOf (spoken ed) body ≡ r
-      → acceptOf (spoken V12) second ≡ q → Tells (serveTold (serveAnswer n ss cs ed body second out))
+  serve-tells : (l : Lent) (r q : Checked) → lentOf n ss cs ≡ l
+      → acceptOf (spoken (modeOf (n .cache .flags)) ed) body ≡ r
+      → acceptOf (spoken (modeOf (n .cache .flags)) V12) second ≡ q
+      → Tells (serveTold (serveAnswer n ss cs ed body second out))
   unfolding serveAnswer
   serve-tells (lent.Faulty why) r q e a b = rw e (node-faulty e)
   serve-tells lent.Fine (checked.Refused why) q e a b = rw (e, a) (body-refused e a)
@@ -424,7 +444,7 @@ module _ (n : Node) (ss cs : List ℕ) (ed : Edition) (body second out : List �
   serve-tells lent.Fine checked.Fine checked.Fine e a b =
       let p : Passes n ss cs ed body second = record { fine = e; asks = a; declines = b } in
       subst (λ (r : Serve). Tells (serveTold r)) (sym (passes-reply p))
-      (by-messages p (having (gatewayIn n ss cs) (remaining body second)) refl)
+      (by-messages p (having (gatewayIn n ss cs) (remaining (modeOf (n .cache .flags)) body second)) refl)
 
   serve-only : {a : Told} → Tells a → serveTold (serveAnswer n ss cs ed body second out) ≡ a
   unfolding serveAnswer
@@ -440,7 +460,8 @@ module _ (n : Node) (ss cs : List ℕ) (ed : Edition) (body second out : List �
       → (serveTold (serveAnswer n ss cs ed body second out) ≡ a) ↔ ServeTells n ss cs ed body second out a
   serve-tells-exactly a = (
     λ e. subst (ServeTells n ss cs ed body second out) e
-        (serve-tells (lentOf n ss cs) (acceptOf (spoken ed) body) (acceptOf (spoken V12) second) refl refl refl),
+        (serve-tells (lentOf n ss cs) (acceptOf (spoken (modeOf (n .cache .flags)) ed) body)
+        (acceptOf (spoken (modeOf (n .cache .flags)) V12) second) refl refl refl),
     λ t. serve-only t,
   )
 

@@ -7,6 +7,7 @@ use native.Mathlib.Omega.{arith}
 use lib.ListN.{length}
 use lib.Dec.{ltb}
 use borrow.Author.Tests.{ltb-true, ltb-false, lt-ltb, le-ltb}
+use Rattle.basis.specs.Dialect.{modeOf}
 use Rattle.basis.specs.Cases.{either}
 use Rattle.basis.specs.declared.Told.{Told}
 use Rattle.basis.specs.Refusals.{topic-too-long}
@@ -33,7 +34,7 @@ use Rattle.node.specs.StateLaws.{fine-tests}
 -- why an id is or is not in a gateway's advertisement of a topic from so many windows
 pub record Explanation (id topic : List ℕ) (windows : ℕ) (g : Gateway) (r : Explain) : Type 0 where
   -- each answer is given exactly where it is true of the gateway's cache, listed exactly of those that are told of
-  pub exactly : Answers id topic windows (g .cache) (λ o. r ≡ explain.Why o)
+  pub exactly : Answers (modeOf (g .flags)) id topic windows (g .cache) (λ o. r ≡ explain.Why o)
   -- the age of an older window is one of a window that is kept
   pub recent : (age : ℕ) → r ≡ explain.Why (offer.OlderWindow age) → age < g .history-len
   -- so this is never the reason where all windows are asked for
@@ -50,7 +51,8 @@ module _ (n : Node) (ss cs id topic : List ℕ) (windows : ℕ) (fine : lentOf n
   unfolding explainAnswer
   explain-says h = rw (fine, le-ltb 1024 (length topic) h, offer-gateway)
 
-  answers : Answers id topic windows (gatewayIn n ss cs .cache) (λ o. offerIn (n .cache) cs id topic windows ≡ o)
+  answers : Answers (modeOf (gatewayIn n ss cs .flags)) id topic windows (gatewayIn n ss cs .cache)
+      (λ o. offerIn (n .cache) cs id topic windows ≡ o)
   unfolding gatewayIn
   answers = answers-exactly id topic windows (n .cache) cs (fine-tests n ss cs fine .messages)
 
@@ -79,7 +81,7 @@ module _ (n : Node) (ss cs id topic : List ℕ) (windows : ℕ) (fine : lentOf n
     pub explain-exactly : Explanation id topic windows (gatewayIn n ss cs) (r .answer)
     explain-exactly =
         record {
-          exactly = answers-as why-same answers;
+          exactly = answers-as (modeOf (gatewayIn n ss cs .flags)) why-same answers;
           recent = λ age z. older age z .0;
           all-windows = λ most age z. omega (arith, most, older age z .0, older age z .1);
         }

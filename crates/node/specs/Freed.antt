@@ -7,6 +7,7 @@ use mathlib.Core.Bool.{Bool, true, false}
 use native.Mathlib.Omega.{arith}
 use lib.Dec.{ltb}
 use borrow.Author.Tests.{eq-eqb}
+use Rattle.basis.specs.Dialect.{modeOf}
 use Rattle.basis.specs.declared.Edition.{Edition}
 use Rattle.basis.specs.Cases.{either, clash}
 use Rattle.seen.specs.Entries.{until}
@@ -31,7 +32,8 @@ use Rattle.node.specs.Laws.{Takes, plan-takes, takes-true, swept-fine}
 -- n, ss and cs before, d, ss2 and cs2 after; m is taken under id at a reading
 pub record Freed (n : Node) (ss cs : List ℕ) (at : ℕ) (m id : List ℕ) (d : Node) (ss2 cs2 : List ℕ) : Type 0 where
   -- the marked id goes to one place of the seen store, which no id kept after the clean-up and the eviction holds
-  pub seen : (n .«max_seen» ≡ 0 → ⊥) → seen.Written (n .«max_seen») (swept n at) (d .seen) ss ss2 (formOf m id)
+  pub seen : (n .«max_seen» ≡ 0 → ⊥) → seen.Written (n .«max_seen») (swept n at) (d .seen) ss ss2
+      (formOf (modeOf (n .cache .flags)) m id)
   pub seen-none : n .«max_seen» ≡ 0 → ss2 ≡ ss
   -- the message to one place of the cache store, which no message kept holds
   pub cache : (n .cache .«max_messages» ≡ 0 → ⊥) → held id (cachedIn (n .cache) cs) ≡ false
@@ -52,22 +54,24 @@ plan-put {n} {ss} {cs} {ed} {body} {i} {word} {at} {m} {id} t =
 
 -- an admit is answered new only where it takes a message
 new-plan : (n : Node) (ss : List ℕ) (at : ℕ) (m id : List ℕ) → admitAnswer n ss at (taken m id) ≡ admit.New
-    → heldAt n ss at (formOf m id) ≡ false
-new-plan n ss at m id h = either (heldAt n ss at (formOf m id)) (λ t. clash (let z = rw t at h in cc)) (λ t. t)
+    → heldAt n ss at (formOf (modeOf (n .cache .flags)) m id) ≡ false
+new-plan n ss at m id h = either (heldAt n ss at (formOf (modeOf (n .cache .flags)) m id))
+    (λ t. clash (let z = rw t at h in cc)) (λ t. t)
 
 module _ (n : Node) (ss cs : List ℕ) (ed : Edition) (body : List ℕ) (i : ℕ) (word : Bool) (at : ℕ) (m id : List ℕ)
     (typed : Typed n) (plan : planned n ss cs ed body i word at ≡ taken m id)
-    (new : heldAt n ss at (formOf m id) ≡ false) where
+    (new : heldAt n ss at (formOf (modeOf (n .cache .flags)) m id) ≡ false) where
   ids-written : (n .«max_seen» ≡ 0 → ⊥)
       → seen.Written (n .«max_seen») (swept n at) (admitNode n ss at (taken m id) .seen) ss
-      (admitSeen n ss at (taken m id)) (formOf m id)
+      (admitSeen n ss at (taken m id)) (formOf (modeOf (n .cache .flags)) m id)
   unfolding laterNode
   ids-written some =
       let t = plan-takes n ss cs ed body i word at m id .0 plan in
       let f = fine-tests n ss cs (t .fine) in
       let w = seen-exactly (swept n at) ss .0 (swept-fine n ss cs (t .fine) at (typed .ids)) in
       let c = room-cap n ss (f .room) in
-      rw new (seen.entered-written (n .«max_seen») (n .«max_seen») (swept n at) ss (formOf m id) (until at (n .ttl))
+      rw new (seen.entered-written (n .«max_seen») (n .«max_seen») (swept n at) ss
+      (formOf (modeOf (n .cache .flags)) m id) (until at (n .ttl))
       (omega (arith, w .starts)) (omega (arith, w .within)) (omega arith) some)
 
   ids-none : n .«max_seen» ≡ 0 → admitSeen n ss at (taken m id) ≡ ss

@@ -12,7 +12,7 @@ use lib.Dec.{leb, ltb, eqb}
 use borrow.Author.Tests.{ltb-false, le-ltb, eqb-true, eqb-false}
 use Rattle.basis.specs.declared.Edition.{Edition}
 use Rattle.basis.specs.declared.Edition.the-variants.{V12}
-use Rattle.basis.specs.Dialect.{spoken}
+use Rattle.basis.specs.Dialect.{modeOf, spoken}
 use Rattle.basis.specs.Cases.{either, clash}
 use Rattle.basis.specs.Writing.{answer, written}
 use Rattle.rows.specs.Rows.{placeOf, rowsIn}
@@ -92,10 +92,10 @@ start-says max-seen history max flags h = rw h
 pub record Takes (n : Node) (ss cs : List ℕ) (ed : Edition) (body : List ℕ) (i : ℕ) (word : Bool) (at : ℕ)
     (m id : List ℕ) : Type 0 where
   pub fine : lentOf n ss cs ≡ lent.Fine
-  pub accepted : acceptOf (spoken ed) body ≡ checked.Fine
+  pub accepted : acceptOf (spoken (modeOf (n .cache .flags)) ed) body ≡ checked.Fine
   pub start : ℕ
   pub next : ℕ
-  pub there : messageAt body i ≡ found.At start next
+  pub there : messageAt (modeOf (n .cache .flags)) body i ≡ found.At start next
   pub bytes : m ≡ between body start next
   pub from-start : ℕ
   pub from-end : ℕ
@@ -106,8 +106,9 @@ pub record Takes (n : Node) (ss cs : List ℕ) (ed : Edition) (body : List ℕ) 
   pub forward : n .clock ≤ at
 
 module _ (n : Node) (ss cs : List ℕ) (ed : Edition) (body : List ℕ) (i : ℕ) (word : Bool) (at : ℕ) (m id : List ℕ) where
-  module _ (fine : lentOf n ss cs ≡ lent.Fine) (ok : acceptOf (spoken ed) body ≡ checked.Fine) where
-    of-fit : (a e : ℕ) (r : Admission) → messageAt body i ≡ found.At a e
+  module _ (fine : lentOf n ss cs ≡ lent.Fine) (ok : acceptOf (spoken (modeOf (n .cache .flags)) ed) body
+      ≡ checked.Fine) where
+    of-fit : (a e : ℕ) (r : Admission) → messageAt (modeOf (n .cache .flags)) body i ≡ found.At a e
         → admissionOf (n .cache .flags) (between body a e) word ≡ r
         → planFit n at (between body a e) r ≡ taken m id → Takes n ss cs ed body i word at m id
     of-fit a e (admission.Unfit why) there f h = clash (cc)
@@ -135,21 +136,21 @@ module _ (n : Node) (ss cs : List ℕ) (ed : Edition) (body : List ℕ) (i : ℕ
           forward = ltb-false at (n .clock) t;
         })
 
-    of-at : (r : MessageAt) → messageAt body i ≡ r → planAt n at word body r ≡ taken m id
+    of-at : (r : MessageAt) → messageAt (modeOf (n .cache .flags)) body i ≡ r → planAt n at word body r ≡ taken m id
         → Takes n ss cs ed body i word at m id
     of-at (found.Count k) there h = clash (cc)
     of-at (found.At a e) there h = of-fit a e (admissionOf (n .cache .flags) (between body a e) word) there refl h
 
-  of-body : lentOf n ss cs ≡ lent.Fine → (r : Checked) → acceptOf (spoken ed) body ≡ r
+  of-body : lentOf n ss cs ≡ lent.Fine → (r : Checked) → acceptOf (spoken (modeOf (n .cache .flags)) ed) body ≡ r
       → planBody n at word body i r ≡ taken m id → Takes n ss cs ed body i word at m id
   of-body fine (checked.Refused why) ok h = clash (cc)
-  of-body fine checked.Fine ok h = of-at fine ok (messageAt body i) refl h
+  of-body fine checked.Fine ok h = of-at fine ok (messageAt (modeOf (n .cache .flags)) body i) refl h
 
   of-lent : (l : Lent) → lentOf n ss cs ≡ l → planned n ss cs ed body i word at ≡ taken m id
       → Takes n ss cs ed body i word at m id
   unfolding planned
   of-lent (lent.Faulty why) e h = clash (let q = rw e at h in cc)
-  of-lent lent.Fine e h = of-body e (acceptOf (spoken ed) body) refl (rw e at h)
+  of-lent lent.Fine e h = of-body e (acceptOf (spoken (modeOf (n .cache .flags)) ed) body) refl (rw e at h)
 
   takes-plan : Takes n ss cs ed body i word at m id → planned n ss cs ed body i word at ≡ taken m id
   unfolding planned
@@ -165,7 +166,8 @@ module _ (n : Node) (ss cs : List ℕ) (ed : Edition) (body : List ℕ) (i : ℕ
 module _ {n : Node} {ss cs : List ℕ} {ed : Edition} {body : List ℕ} {i : ℕ} {word : Bool} {at : ℕ} {m id : List ℕ}
     (t : Takes n ss cs ed body i word at m id) where
   pub takes-vouched : vouched (n .cache .flags) m word ≡ true
-  takes-vouched = fit-vouched (n .cache .flags) m word (t .from-start) (t .from-end) (t .seqno-start) (t .seqno-end) (t .fit)
+  takes-vouched = fit-vouched (n .cache .flags) m word (t .from-start) (t .from-end) (t .seqno-start) (t .seqno-end)
+      (t .fit)
 
   -- it would be taken with the host's word
   pub takes-true : admissionOf (n .cache .flags) m true
@@ -173,21 +175,25 @@ module _ {n : Node} {ss cs : List ℕ} {ed : Edition} {body : List ℕ} {i : ℕ
   takes-true = fit-true (n .cache .flags) m word (t .from-start) (t .from-end) (t .seqno-start) (t .seqno-end) (t .fit)
 
   pub takes-small : length m ≤ messageSize
-  takes-small = fit-limits (n .cache .flags) m word (t .from-start) (t .from-end) (t .seqno-start) (t .seqno-end) (t .fit) .small
+  takes-small = fit-limits (n .cache .flags) m word (t .from-start) (t .from-end) (t .seqno-start) (t .seqno-end)
+      (t .fit) .small
 
   pub takes-id-small : length id ≤ messageIdSize
-  takes-id-small = rw (t .named) (fit-id (n .cache .flags) m word (t .from-start) (t .from-end) (t .seqno-start) (t .seqno-end)
+  takes-id-small = rw (t .named) (fit-id (n .cache .flags) m word (t .from-start) (t .from-end) (t .seqno-start)
+      (t .seqno-end)
       (t .fit) .1)
 
   pub takes-own : givesId (n .cache .flags) m id ≡ true
   takes-own =
-      let r = message-read (spoken ed) body i (t .start) (t .next) (t .accepted) (t .there) in
+      let r = message-read (spoken (modeOf (n .cache .flags)) ed) body i (t .start) (t .next) (t .accepted)
+      (t .there) in
       rw (t .named) (gives-own (n .cache .flags) m (r .0) (t .from-start) (t .from-end) (t .seqno-start) (t .seqno-end)
       (rw (t .bytes) (r .1)) takes-true)
 
 -- where nothing is refused, the message at the index is taken, under its id
 pub plan-taken : (n : Node) (ss cs : List ℕ) (ed : Edition) (body : List ℕ) (i at a e x y z w : ℕ)
-    → lentOf n ss cs ≡ lent.Fine → acceptOf (spoken ed) body ≡ checked.Fine → messageAt body i ≡ found.At a e
+    → lentOf n ss cs ≡ lent.Fine → acceptOf (spoken (modeOf (n .cache .flags)) ed) body ≡ checked.Fine
+    → messageAt (modeOf (n .cache .flags)) body i ≡ found.At a e
     → admissionOf (n .cache .flags) (between body a e) true ≡ admission.Fit x y z w → n .clock ≤ at
     → planned n ss cs ed body i true at ≡ taken (between body a e) (idBytes (between body a e) x y z w)
 unfolding planned
@@ -214,9 +220,10 @@ module _ (n : Node) (ss cs : List ℕ) (fine : lentOf n ss cs ≡ lent.Fine) (at
   unfolding heldAt
   held-swept form = ap (holds form) (sym entries-swept) ∙ holds-entries (n .«max_seen») (swept n at) ss form
 
-  pub is-new : (m id : List ℕ) → isNew at m id (gatewayIn n ss cs) ≡ not (heldAt n ss at (formOf m id))
+  pub is-new : (m id : List ℕ) → isNew at m id (gatewayIn n ss cs)
+      ≡ not (heldAt n ss at (formOf (modeOf (n .cache .flags)) m id))
   unfolding isNew gatewayIn
-  is-new m id = ap not (held-swept (formOf m id))
+  is-new m id = ap not (held-swept (formOf (modeOf (n .cache .flags)) m id))
 
   module _ (z : Sized (n .seen)) where
     pub swept-fine : seenLentOf (swept n at) ss ≡ seenLent.Fine
@@ -268,7 +275,8 @@ module _ (n : Node) (ss cs : List ℕ) (ed : Edition) (body : List ℕ) (i : ℕ
       admit.New admit.Duplicate
   admit-says =
       let t = plan-takes n ss cs ed body i word at m id .0 plan in
-      rw (plan, is-new n ss cs (t .fine) at m id) (either (heldAt n ss at (formOf m id)) (λ u. rw u) (λ u. rw u))
+      rw (plan, is-new n ss cs (t .fine) at m id) (either (heldAt n ss at (formOf (modeOf (n .cache .flags)) m id))
+      (λ u. rw u) (λ u. rw u))
 
   pub admit-gateway : gatewayIn (admitNode n ss at (planned n ss cs ed body i word at))
       (admitSeen n ss at (planned n ss cs ed body i word at))
@@ -278,14 +286,17 @@ module _ (n : Node) (ss cs : List ℕ) (ed : Edition) (body : List ℕ) (i : ℕ
   admit-gateway =
       let t = plan-takes n ss cs ed body i word at m id .0 plan in
       let f = fine-tests n ss cs (t .fine) in
-      let a = seen-inserted n ss cs (t .fine) at (typed .ids) (formOf m id) (omega (arith, takes-id-small t)) in
-      let b = store-inserted n ss cs (t .fine) at (typed .ids) (formOf m id) (omega (arith, takes-id-small t)) in
-      let e = entries-inserted n ss cs (t .fine) at (typed .ids) (formOf m id) (omega (arith, takes-id-small t)) in
+      let a = seen-inserted n ss cs (t .fine) at (typed .ids) (formOf (modeOf (n .cache .flags)) m id)
+      (omega (arith, takes-id-small t)) in
+      let b = store-inserted n ss cs (t .fine) at (typed .ids) (formOf (modeOf (n .cache .flags)) m id)
+      (omega (arith, takes-id-small t)) in
+      let e = entries-inserted n ss cs (t .fine) at (typed .ids) (formOf (modeOf (n .cache .flags)) m id)
+      (omega (arith, takes-id-small t)) in
       let s = under-settings m id (n .cache) in
       let c = under-cached (n .cache) cs m id (f .messages) (typed .messages .sized) (takes-id-small t)
       (takes-small t) in
       rw (plan, is-new n ss cs (t .fine) at m id, ← e, ← a, ← b)
-      (either (heldAt n ss at (formOf m id)) (λ u. rw u) (λ u. rw (u, c, s .0, s .1, s .2)))
+      (either (heldAt n ss at (formOf (modeOf (n .cache .flags)) m id)) (λ u. rw u) (λ u. rw (u, c, s .0, s .1, s .2)))
 
 -- ---- heartbeat
 beat-passes : (n : Node) (ss cs : List ℕ) (at : ℕ) (l : Lent) → lentOf n ss cs ≡ l → beatAnswer n ss cs at ≡ beat.Done
@@ -389,32 +400,37 @@ module _ (n : Node) (ss cs out : List ℕ) (fine : lentOf n ss cs ≡ lent.Fine)
   advertise-says topic windows h =
       rw (fine, le-ltb 1024 (length topic) h, told-gateway n ss cs topic windows fine) (refl, refl)
 
-  module _ (ed : Edition) (body : List ℕ) (ok : acceptOf (spoken ed) body ≡ checked.Fine) where
+  module _ (ed : Edition) (body : List ℕ) (ok : acceptOf (spoken (modeOf (n .cache .flags)) ed) body
+      ≡ checked.Fine) where
     pub ask-says : (askAnswer n ss cs ed body out
-        ≡ asked (answer (rpcBytes (askOf (atPath (3 ∷ 1 ∷ 2 ∷ []) body) (gatewayIn n ss cs))) out))
+        ≡ asked (answer (rpcBytes (askOf (atPath (modeOf (n .cache .flags)) (3 ∷ 1 ∷ 2 ∷ []) body)
+        (gatewayIn n ss cs))) out))
         × (askLeft n ss cs ed body out
-        ≡ written (rpcBytes (askOf (atPath (3 ∷ 1 ∷ 2 ∷ []) body) (gatewayIn n ss cs))) out)
+        ≡ written (rpcBytes (askOf (atPath (modeOf (n .cache .flags)) (3 ∷ 1 ∷ 2 ∷ []) body) (gatewayIn n ss cs))) out)
     unfolding askAnswer askLeft askBytes askOf offered
-    ask-says = rw (fine, ok, unseen-gateway n ss cs (offered body)) (refl, refl)
+    ask-says = rw (fine, ok, unseen-gateway n ss cs (offered (modeOf (n .cache .flags)) body)) (refl, refl)
 
     -- the second body too
-    pub serve-says : (second : List ℕ) → acceptOf (spoken V12) second ≡ checked.Fine
+    pub serve-says : (second : List ℕ) → acceptOf (spoken (modeOf (n .cache .flags)) V12) second ≡ checked.Fine
         → (serveAnswer n ss cs ed body second out
-        ≡ replied (serveOf (atPath (3 ∷ 2 ∷ 1 ∷ []) body) (unwantedIn second) (length out) (gatewayIn n ss cs)))
+        ≡ replied (serveOf (atPath (modeOf (n .cache .flags)) (3 ∷ 2 ∷ 1 ∷ []) body)
+        (unwantedIn (modeOf (n .cache .flags)) second) (length out) (gatewayIn n ss cs)))
         × (serveLeft n ss cs ed body second out
         ≡ sets out 0
-        (sentBytes (serveOf (atPath (3 ∷ 2 ∷ 1 ∷ []) body) (unwantedIn second) (length out) (gatewayIn n ss cs))))
+        (sentBytes (serveOf (atPath (modeOf (n .cache .flags)) (3 ∷ 2 ∷ 1 ∷ []) body)
+        (unwantedIn (modeOf (n .cache .flags)) second) (length out) (gatewayIn n ss cs))))
     unfolding serveAnswer serveLeft serveOf remaining wanted roomOf
     serve-says second too =
-        let ms = having (gatewayIn n ss cs) (remaining body second) in
-        rw (fine, ok, too, cached-gateway n ss cs (remaining body second))
+        let ms = having (gatewayIn n ss cs) (remaining (modeOf (n .cache .flags)) body second) in
+        rw (fine, ok, too, cached-gateway n ss cs (remaining (modeOf (n .cache .flags)) body second))
         (refl, ap (sets out 0) (sym (sent-bytes ms out)))
 
 -- ---- a refused call changes nothing
 plan-refused : (n : Node) (ss cs : List ℕ) (at : ℕ) (r : Plan) → (admitNumber (admitAnswer n ss at r) ≡ 0 → ⊥)
     → (admitNode n ss at r ≡ n) × (admitSeen n ss at r ≡ ss) × (admitCache n ss cs at r ≡ cs)
 plan-refused n ss cs at (no r) h = (refl, refl, refl)
-plan-refused n ss cs at (taken m id) h = absurd (h (either (heldAt n ss at (formOf m id)) (λ t. rw t) (λ t. rw t)))
+plan-refused n ss cs at (taken m id) h = absurd (h (either (heldAt n ss at (formOf (modeOf (n .cache .flags)) m id))
+    (λ t. rw t) (λ t. rw t)))
 
 pub admit-refused : (n : Node) (ss cs : List ℕ) (ed : Edition) (body : List ℕ) (i : ℕ) (word : Bool) (at : ℕ)
     → (admitNumber (admitAnswer n ss at (planned n ss cs ed body i word at)) ≡ 0 → ⊥)
@@ -454,7 +470,8 @@ module _ (n : Node) (ss cs out : List ℕ) where
       → advertiseLeft n ss cs topic windows out ≡ out
   advertise-refused topic windows h = advertise-by topic windows (lentOf n ss cs) refl h
 
-  ask-by : (ed : Edition) (body : List ℕ) (l : Lent) (r : Checked) → lentOf n ss cs ≡ l → acceptOf (spoken ed) body ≡ r
+  ask-by : (ed : Edition) (body : List ℕ) (l : Lent) (r : Checked) → lentOf n ss cs ≡ l
+      → acceptOf (spoken (modeOf (n .cache .flags)) ed) body ≡ r
       → (askNumber (askAnswer n ss cs ed body out) ≡ 0 → ⊥) → askLeft n ss cs ed body out ≡ out
   unfolding askAnswer askLeft answer
   ask-by ed body (lent.Faulty why) r e a h = rw e
@@ -463,7 +480,8 @@ module _ (n : Node) (ss cs out : List ℕ) where
 
   pub ask-refused : (ed : Edition) (body : List ℕ) → (askNumber (askAnswer n ss cs ed body out) ≡ 0 → ⊥)
       → askLeft n ss cs ed body out ≡ out
-  ask-refused ed body h = ask-by ed body (lentOf n ss cs) (acceptOf (spoken ed) body) refl refl h
+  ask-refused ed body h = ask-by ed body (lentOf n ss cs)
+      (acceptOf (spoken (modeOf (n .cache .flags)) ed) body) refl refl h
 
   -- where the first message does not fit, none is written
   reply-refused : (ms : List (List ℕ)) → (serveNumber (replyTo ms out) ≡ 0 → ⊥) → sets out 0 (replyBytes ms out) ≡ out
@@ -474,17 +492,20 @@ module _ (n : Node) (ss cs out : List ℕ) where
       (λ t. absurd (h (rw (reply-some m ms out (eqb-false (servedOf (m ∷ ms) out) 0 t)))))
 
   serve-by : (ed : Edition) (body second : List ℕ) (l : Lent) (r q : Checked) → lentOf n ss cs ≡ l
-      → acceptOf (spoken ed) body ≡ r → acceptOf (spoken V12) second ≡ q
+      → acceptOf (spoken (modeOf (n .cache .flags)) ed) body ≡ r
+      → acceptOf (spoken (modeOf (n .cache .flags)) V12) second ≡ q
       → (serveNumber (serveAnswer n ss cs ed body second out) ≡ 0 → ⊥) → serveLeft n ss cs ed body second out ≡ out
   unfolding serveAnswer serveLeft
   serve-by ed body second (lent.Faulty why) r q e a b h = rw e
   serve-by ed body second lent.Fine (checked.Refused why) q e a b h = rw (e, a)
   serve-by ed body second lent.Fine checked.Fine (checked.Refused why) e a b h = rw (e, a, b)
   serve-by ed body second lent.Fine checked.Fine checked.Fine e a b h =
-      rw (e, a, b) (reply-refused (cachedOf (n .cache) cs (remaining body second)) (λ u. h (rw (e, a, b) u)))
+      rw (e, a, b) (reply-refused (cachedOf (n .cache) cs (remaining (modeOf (n .cache .flags)) body second))
+      (λ u. h (rw (e, a, b) u)))
 
   pub serve-refused : (ed : Edition) (body second : List ℕ)
       → (serveNumber (serveAnswer n ss cs ed body second out) ≡ 0 → ⊥) → serveLeft n ss cs ed body second out ≡ out
   serve-refused ed body second h =
-      serve-by ed body second (lentOf n ss cs) (acceptOf (spoken ed) body) (acceptOf (spoken V12) second) refl refl refl
+      serve-by ed body second (lentOf n ss cs) (acceptOf (spoken (modeOf (n .cache .flags)) ed) body)
+      (acceptOf (spoken (modeOf (n .cache .flags)) V12) second) refl refl refl
       h

@@ -8,6 +8,7 @@ use native.Mathlib.Omega.{arith}
 use lib.ListN.{length, drop, drop-of-length-le}
 use lib.Dec.{leb}
 use borrow.Author.Tests.{leb-true, le-leb}
+use Rattle.basis.specs.Dialect.{modeOf}
 use Rattle.basis.specs.declared.Edition.{Edition}
 use Rattle.basis.specs.Cases.{either, clash}
 use Rattle.rows.specs.Rows.{newest}
@@ -91,18 +92,23 @@ forms-differ false false id h = clash (cc)
 
 -- ---- one of m and u has a signature and the other has none: after an admit of u, at its reading or a later one, m is new
 -- wherever it was
-pub other-mark-new : (at later : ℕ) (u m id : List ℕ) (g : Gateway) → at ≤ later → not (isSigned u) ≡ isSigned m
+pub other-mark-new : (at later : ℕ) (u m id : List ℕ) (g : Gateway) → at ≤ later
+    → not (isSigned (modeOf (g .flags)) u) ≡ isSigned (modeOf (g .flags)) m
     → isNew later m id g ≡ true → isNew later m id (afterAdmit at u id g) ≡ true
 unfolding isNew afterAdmit
 other-mark-new at later u m id g l n h =
-    let k = formOf m id in
+    let k = formOf (modeOf (g .flags)) m id in
     let a : holds k (live later (g .seen)) ≡ false =
     either (holds k (live later (g .seen))) (λ t. clash (let z = simp t at h in cc)) (λ t. t) in
     let b : holds k (live later (live at (g .seen))) ≡ false = rw (live-twice k later at (g .seen) l) a in
-    ap not (live-inserted k later (g .max-seen) (formOf u id) at (g .ttl) (live at (g .seen))
-    (forms-differ (isSigned u) (isSigned m) id n) b)
+    ap not (live-inserted k later (g .max-seen) (formOf (modeOf (g .flags)) u id) at (g .ttl) (live at (g .seen))
+    (forms-differ (isSigned (modeOf (g .flags)) u) (isSigned (modeOf (g .flags)) m) id n) b)
 
 -- of the calls
+gateway-mode : (n : Node) (ss cs : List ℕ) → modeOf (gatewayIn n ss cs .flags) ≡ modeOf (n .cache .flags)
+unfolding gatewayIn
+gateway-mode n ss cs = refl
+
 module _ (n : Node) (ss cs : List ℕ) (ed : Edition) (body : List ℕ) (i : ℕ) (word : Bool) (at : ℕ) (u id : List ℕ)
     (typed : Typed n) (plan : planned n ss cs ed body i word at ≡ taken u id) where
   abbrev nextNode : Node
@@ -119,7 +125,7 @@ module _ (n : Node) (ss cs : List ℕ) (ed : Edition) (body : List ℕ) (i : ℕ
   next-clock = ap (λ (g : Gateway). g .clock) (admit-gateway n ss cs ed body i word at u id typed plan)
 
   pub other-mark-told : (ed2 : Edition) (body2 : List ℕ) (j : ℕ) (word2 : Bool) (later : ℕ) (m : List ℕ)
-      → not (isSigned u) ≡ isSigned m
+      → not (isSigned (modeOf (n .cache .flags)) u) ≡ isSigned (modeOf (n .cache .flags)) m
       → planned nextNode nextSeen nextCache ed2 body2 j word2 later ≡ taken m id
       → isNew later m id (gatewayIn n ss cs) ≡ true
       → admitAnswer nextNode nextSeen later (planned nextNode nextSeen nextCache ed2 body2 j word2 later) ≡ admit.New
@@ -128,7 +134,8 @@ module _ (n : Node) (ss cs : List ℕ) (ed : Edition) (body : List ℕ) (i : ℕ
       let l : at ≤ later = omega (arith, next-clock, t .forward) in
       let g = admit-gateway n ss cs ed body i word at u id typed plan in
       let a : isNew later m id (gatewayIn nextNode nextSeen nextCache) ≡ true =
-      ap (isNew later m id) g ∙ other-mark-new at later u m id (gatewayIn n ss cs) l differ new in
+      ap (isNew later m id) g
+      ∙ other-mark-new at later u m id (gatewayIn n ss cs) l (rw (gateway-mode n ss cs) differ) new in
       admit-says nextNode nextSeen nextCache ed2 body2 j word2 later m id (admit-typed n ss cs typed ed body i word at)
       plan2 ∙ rw a
 

@@ -1,11 +1,11 @@
--- With the flag off a node is what it was before there were flags: each definition that reads them equals the one it was,
--- which stands here.
+-- Where the flags allow no unsigned message, a node is what it was before there were flags, in the mode that they name:
+-- each definition that reads them equals the one it was, which stands here.
 use Prim.Native.Nat.{ℕ}
 use mathlib.Core.Path.{_≡_, refl, ap, _∙_}
 use mathlib.Core.List.{List, [], _∷_}
 use mathlib.Core.Bool.{Bool, true, false, cond, not}
 use Rattle.basis.specs.declared.Edition.{Edition}
-use Rattle.basis.specs.Dialect.{spoken}
+use Rattle.basis.specs.Dialect.{modeOf, spoken}
 use Rattle.basis.specs.Cases.{either}
 use Rattle.rows.specs.Ids.{among}
 use Rattle.protobuf.specs.declared.Checked.{Checked}
@@ -51,7 +51,7 @@ lackingWas g [] = []
 lackingWas g (i ∷ is) = cond (holds (1 ∷ i) (g .seen)) (lackingWas g is) (i ∷ lackingWas g is)
 
 -- a message with a signature is seen as it was
-module _ (at : ℕ) (m id : List ℕ) (g : Gateway) (signed : isSigned m ≡ true) where
+module _ (at : ℕ) (m id : List ℕ) (g : Gateway) (signed : isSigned (modeOf (g .flags)) m ≡ true) where
   pub new-was : isNew at m id g ≡ isNewWas at id g
   unfolding isNew isNewWas
   new-was = rw signed
@@ -60,7 +60,8 @@ module _ (at : ℕ) (m id : List ℕ) (g : Gateway) (signed : isSigned m ≡ tru
   unfolding afterAdmit afterAdmitWas isNew isNewWas
   admit-was = rw signed
 
-pub lacking-off : (g : Gateway) (is : List (List ℕ)) → allowsUnsigned (g .flags) ≡ false → lacking g is ≡ lackingWas g is
+pub lacking-off : (g : Gateway) (is : List (List ℕ)) → allowsUnsigned (g .flags) ≡ false
+    → lacking g is ≡ lackingWas g is
 unfolding lacking lackingWas
 lacking-off g [] h = refl
 lacking-off g (i ∷ is) h = rw (knows-off g i h, lacking-off g is h)
@@ -68,16 +69,17 @@ lacking-off g (i ∷ is) h = rw (knows-off g i h, lacking-off g is h)
 -- ---- of the calls: what an admit takes
 abbrev pub planAtWas : Node → ℕ → Bool → List ℕ → MessageAt → Plan
 planAtWas n at word body (found.Count k) = no (admit.NoMessage k)
-planAtWas n at word body (found.At a e) = planFit n at (between body a e) (admissionWas (between body a e) word)
+planAtWas n at word body (found.At a e) =
+    planFit n at (between body a e) (admissionWas (modeOf (n .cache .flags)) (between body a e) word)
 
 abbrev pub planBodyWas : Node → ℕ → Bool → List ℕ → ℕ → Checked → Plan
 planBodyWas n at word body i (checked.Refused why) = no (admit.Refused why)
-planBodyWas n at word body i checked.Fine = planAtWas n at word body (messageAt body i)
+planBodyWas n at word body i checked.Fine = planAtWas n at word body (messageAt (modeOf (n .cache .flags)) body i)
 
 unfoldable pub plannedWas : Node → List ℕ → List ℕ → Edition → List ℕ → ℕ → Bool → ℕ → Plan
 plannedWas n ss cs ed body i word at =
     onLent (λ (why : Fault). no (admit.Faulty why)) (lentOf n ss cs)
-    (planBodyWas n at word body i (acceptOf (spoken ed) body))
+    (planBodyWas n at word body i (acceptOf (spoken (modeOf (n .cache .flags)) ed) body))
 
 unfoldable pub unseenWas : List (List ℕ) → List (List ℕ) → List (List ℕ)
 unseenWas seen [] = []
@@ -92,18 +94,21 @@ module _ (n : Node) (off : allowsUnsigned (n .cache .flags) ≡ false) where
   body-was : (at : ℕ) (word : Bool) (body : List ℕ) (i : ℕ) (r : Checked)
       → planBody n at word body i r ≡ planBodyWas n at word body i r
   body-was at word body i (checked.Refused why) = refl
-  body-was at word body i checked.Fine = at-was at word body (messageAt body i)
+  body-was at word body i checked.Fine = at-was at word body (messageAt (modeOf (n .cache .flags)) body i)
 
   pub planned-off : (ss cs : List ℕ) (ed : Edition) (body : List ℕ) (i : ℕ) (word : Bool) (at : ℕ)
       → planned n ss cs ed body i word at ≡ plannedWas n ss cs ed body i word at
   unfolding planned plannedWas
-  planned-off ss cs ed body i word at = rw (body-was at word body i (acceptOf (spoken ed) body))
+  planned-off ss cs ed body i word at = rw (body-was at word body i
+      (acceptOf (spoken (modeOf (n .cache .flags)) ed) body))
 
   -- what is taken has a signature, so that it is seen as it was
   pub takes-signed : {ss cs : List ℕ} {ed : Edition} {body : List ℕ} {i : ℕ} {word : Bool} {at : ℕ} {m id : List ℕ}
-      → Takes n ss cs ed body i word at m id → (isSigned m ≡ true) × (formOf m id ≡ 1 ∷ id)
+      → Takes n ss cs ed body i word at m id → (isSigned (modeOf (n .cache .flags)) m ≡ true)
+      × (formOf (modeOf (n .cache .flags)) m id ≡ 1 ∷ id)
   takes-signed {word = word} {m = m} {id = id} t =
-      let s = fit-signed (n .cache .flags) m word (t .from-start) (t .from-end) (t .seqno-start) (t .seqno-end) (t .fit) off in
+      let s = fit-signed (n .cache .flags) m word (t .from-start) (t .from-end) (t .seqno-start) (t .seqno-end)
+      (t .fit) off in
       (s, rw s)
 
 pub unseen-off : (flags : ℕ) (seen is : List (List ℕ)) → allowsUnsigned flags ≡ false

@@ -10,6 +10,7 @@ use lib.ListN.{length, take, drop, getD, set, length-append, length-take, drop-o
 use lib.Seq.{sets, length-sets, drop-cons, drop-drop, take-take, getD-set-same, getD-set-other}
 use lib.Dec.{leb, ltb}
 use borrow.Author.Tests.{eqb-true, ltb-true, ltb-false, leb-true, leb-false, le-leb, lt-leb}
+use Rattle.basis.specs.declared.Mode.{Mode}
 use Rattle.basis.specs.declared.Dialect.{Dialect}
 use Rattle.basis.specs.declared.Edition.the-variants.{V12}
 use Rattle.basis.specs.Dialect.{spoken}
@@ -139,41 +140,43 @@ between-between s b z a e h k =
     (take-take (e - a) (z - b - a) (drop (b + a) s) (omega arith))
 
 -- ---- the parts at a path, field by field: those in the fields from a place on
-abbrev pub restAt : List ℕ → List ℕ → ℕ → List (List ℕ)
-restAt path s at = inEach (atPath (drop 1 path)) (valuesAlong (getD path 0 0) s (walkAt s at))
+abbrev pub restAt : Mode → List ℕ → List ℕ → ℕ → List (List ℕ)
+restAt mode path s at = inEach (atPath mode (drop 1 path)) (valuesAlong (getD path 0 0) s (walkAt mode s at))
 
 -- those in one field
-abbrev pub fieldParts : List ℕ → List ℕ → Field → List (List ℕ)
-fieldParts path s f = cond (isBytes (getD path 0 0) f) (atPath (drop 1 path) (valueIn s f)) []
+abbrev pub fieldParts : Mode → List ℕ → List ℕ → Field → List (List ℕ)
+fieldParts mode path s f = cond (isBytes (getD path 0 0) f) (atPath mode (drop 1 path) (valueIn s f)) []
 
-pub path-none : (path s : List ℕ) → length path ≡ 0 → atPath path s ≡ s ∷ []
+pub path-none : (mode : Mode) (path s : List ℕ) → length path ≡ 0 → atPath mode path s ≡ s ∷ []
 unfolding atPath
-path-none [] s h = refl
-path-none (n ∷ ns) s h = absurd (omega arith)
+path-none mode [] s h = refl
+path-none mode (n ∷ ns) s h = absurd (omega arith)
 
-pub path-all : (path s : List ℕ) → 1 ≤ length path → restAt path s 0 ≡ atPath path s
+pub path-all : (mode : Mode) (path s : List ℕ) → 1 ≤ length path → restAt mode path s 0 ≡ atPath mode path s
 unfolding atPath
-path-all [] s h = absurd (omega arith)
-path-all (n ∷ ns) s h = refl
+path-all mode [] s h = absurd (omega arith)
+path-all mode (n ∷ ns) s h = refl
 
-pub path-field : (path s : List ℕ) (at : ℕ) (f : Field) → step.At f ≡ readField s at
-    → restAt path s at ≡ fieldParts path s f ++ restAt path s (f .next)
-path-field path s at f h =
-    ap (λ (w : Fields). inEach (atPath (drop 1 path)) (valuesAlong (getD path 0 0) s w)) (walk-on s at (step.At f) h)
+pub path-field : (mode : Mode) (path s : List ℕ) (at : ℕ) (f : Field) → step.At f ≡ readField mode s at
+    → restAt mode path s at ≡ fieldParts mode path s f ++ restAt mode path s (f .next)
+path-field mode path s at f h =
+    ap (λ (w : Fields). inEach (atPath mode (drop 1 path)) (valuesAlong (getD path 0 0) s w))
+    (walk-on mode s at (step.At f) h)
     ∙ either (isBytes (getD path 0 0) f) (λ t. simp t) (λ t. simp t)
 
-pub path-end : (path s : List ℕ) (at : ℕ) → step.End ≡ readField s at → restAt path s at ≡ []
-path-end path s at h = ap (λ (w : Fields). inEach (atPath (drop 1 path)) (valuesAlong (getD path 0 0) s w))
-    (walk-on s at step.End h)
+pub path-end : (mode : Mode) (path s : List ℕ) (at : ℕ) → step.End ≡ readField mode s at → restAt mode path s at ≡ []
+path-end mode path s at h = ap (λ (w : Fields). inEach (atPath mode (drop 1 path)) (valuesAlong (getD path 0 0) s w))
+    (walk-on mode s at step.End h)
 
-pub path-refused : (path s : List ℕ) (at : ℕ) (why : WireError) → step.Refused why ≡ readField s at
-    → restAt path s at ≡ []
-path-refused path s at why h = ap (λ (w : Fields). inEach (atPath (drop 1 path)) (valuesAlong (getD path 0 0) s w))
-    (walk-on s at (step.Refused why) h)
+pub path-refused : (mode : Mode) (path s : List ℕ) (at : ℕ) (why : WireError) → step.Refused why ≡ readField mode s at
+    → restAt mode path s at ≡ []
+path-refused mode path s at why h = ap (λ (w : Fields). inEach (atPath mode (drop 1 path))
+    (valuesAlong (getD path 0 0) s w))
+    (walk-on mode s at (step.Refused why) h)
 
-pub path-done : (path s : List ℕ) (at : ℕ) → length s ≤ at → restAt path s at ≡ []
-path-done path s at h = ap (λ (w : Fields). inEach (atPath (drop 1 path)) (valuesAlong (getD path 0 0) s w))
-    (walk-end s at h)
+pub path-done : (mode : Mode) (path s : List ℕ) (at : ℕ) → length s ≤ at → restAt mode path s at ≡ []
+path-done mode path s at h = ap (λ (w : Fields). inEach (atPath mode (drop 1 path)) (valuesAlong (getD path 0 0) s w))
+    (walk-end mode s at h)
 
 -- ---- each once
 module _ (earlier is : List (List ℕ)) (i : List ℕ) where
@@ -334,77 +337,85 @@ fitting-next n room (m ∷ ms) h =
     (λ t. let k = leb-false _ _ t in let l = fields-more n 0 m ms in rw (fitting-stop n room m ms k) (omega arith))
 
 -- ---- a body has no more parts at a path than records
-along-counted : (k : Kind) (m : ℕ) (s : List ℕ) (g : List ℕ → List (List ℕ))
-    → ((f : Field) (x : ℕ) → roleCount counted s f (roleOf k m 2) ≡ Records x → length (g (valueIn s f)) ≤ x)
-    → (w : Fields) (r : ℕ) → countAlong counted k s w ≡ Records r → length (inEach g (valuesAlong m s w)) ≤ r
-along-counted k m s g h end r e = omega arith
-along-counted k m s g h (refused why) r e = clash (cc)
-along-counted k m s g h (f then w) r e =
-    let t = then-fits (roleCount counted s f (roleOf k (f .field) (f .«wire_type»))) (countAlong counted k s w) r e in
-    let i = along-counted k m s g h w (t .1) (t .3) in
+along-counted : (mode : Mode) (k : Kind) (m : ℕ) (s : List ℕ) (g : List ℕ → List (List ℕ))
+    → ((f : Field) (x : ℕ) → roleCount (counted mode) s f (roleOf k m 2) ≡ Records x → length (g (valueIn s f)) ≤ x)
+    → (w : Fields) (r : ℕ) → countAlong (counted mode) k s w ≡ Records r → length (inEach g (valuesAlong m s w)) ≤ r
+along-counted mode k m s g h end r e = omega arith
+along-counted mode k m s g h (refused why) r e = clash (cc)
+along-counted mode k m s g h (f then w) r e =
+    let t = then-fits (roleCount (counted mode) s f (roleOf k (f .field) (f .«wire_type»)))
+    (countAlong (counted mode) k s w) r e in
+    let i = along-counted mode k m s g h w (t .1) (t .3) in
     let z = t .4 in
     either (isBytes m f)
     (λ u. let b = both _ _ u in
     let q : roleOf k (f .field) (f .«wire_type») ≡ roleOf k m 2 =
     ap₂ (roleOf k) (eqb-true _ _ (b .1)) (eqb-true _ _ (b .0)) in
-    let y = h f (t .0) (sym (ap (roleCount counted s f) q) ∙ t .2) in
+    let y = h f (t .0) (sym (ap (roleCount (counted mode) s f) q) ∙ t .2) in
     let l = length-append (g (valueIn s f)) (inEach g (valuesAlong m s w)) in
     simp u (omega arith))
     (λ u. simp u (omega arith))
 
 -- the field m leads into submessages, or holds the parts themselves
-pub path-sub : (k j : Kind) (form : Form) (m : ℕ) (ns : List ℕ) → roleOf k m 2 ≡ Sub j form
-    → ((p : List ℕ) (x : ℕ) → counted j p ≡ Records x → length (atPath ns p) ≤ x) → (s : List ℕ) (r : ℕ)
-    → counted k s ≡ Records r → length (atPath (m ∷ ns) s) ≤ r
+pub path-sub : (mode : Mode) (k j : Kind) (form : Form) (m : ℕ) (ns : List ℕ) → roleOf k m 2 ≡ Sub j form
+    → ((p : List ℕ) (x : ℕ) → counted mode j p ≡ Records x → length (atPath mode ns p) ≤ x) → (s : List ℕ) (r : ℕ)
+    → counted mode k s ≡ Records r → length (atPath mode (m ∷ ns) s) ≤ r
 unfolding atPath
-path-sub k j form m ns q h s r e =
-    along-counted k m s (atPath ns)
-    (λ f x c. let t = plus-fits (ownOf j) x (counted j (valueIn s f)) (sym (ap (roleCount counted s f) q) ∙ c) in
+path-sub mode k j form m ns q h s r e =
+    along-counted mode k m s (atPath mode ns)
+    (λ f x c. let t = plus-fits (ownOf j) x (counted mode j (valueIn s f)) (sym (ap (roleCount (counted mode) s f) q)
+    ∙ c) in
     let y = h (valueIn s f) (t .0) (t .1) in let z = t .2 in omega arith)
-    (fieldsOf s) r (sym (count-along k s) ∙ e)
+    (fieldsOf mode s) r (sym (count-along mode k s) ∙ e)
 
-pub path-id : (k : Kind) (m : ℕ) → roleOf k m 2 ≡ MessageId → (s : List ℕ) (r : ℕ) → counted k s ≡ Records r
-    → length (atPath (m ∷ []) s) ≤ r
+pub path-id : (mode : Mode) (k : Kind) (m : ℕ) → roleOf k m 2 ≡ MessageId → (s : List ℕ) (r : ℕ)
+    → counted mode k s ≡ Records r
+    → length (atPath mode (m ∷ []) s) ≤ r
 unfolding atPath
-path-id k m q s r e =
-    along-counted k m s (atPath [])
-    (λ f x c. let z : Records 1 ≡ Records x = sym (ap (roleCount counted s f) q)
+path-id mode k m q s r e =
+    along-counted mode k m s (atPath mode [])
+    (λ f x c. let z : Records 1 ≡ Records x = sym (ap (roleCount (counted mode) s f) q)
     ∙ c in let y : x ≡ 1 = cc in omega arith)
-    (fieldsOf s) r (sym (count-along k s) ∙ e)
+    (fieldsOf mode s) r (sym (count-along mode k s) ∙ e)
 
 -- the ids of IHAVEs and of IWANTs
-pub ihave-counted : (d : Dialect) (s : List ℕ) (r : ℕ) → counted (kind.Rpc d) s ≡ Records r
-    → length (atPath (3 ∷ 1 ∷ 2 ∷ []) s) ≤ r
+pub ihave-counted : (d : Dialect) (s : List ℕ) (r : ℕ) → counted (d .mode) (kind.Rpc (d .edition)) s ≡ Records r
+    → length (atPath (d .mode) (3 ∷ 1 ∷ 2 ∷ []) s) ≤ r
 unfolding roleOf
 ihave-counted d =
-    path-sub (kind.Rpc d) (kind.ControlMessage d) Merged 3 (1 ∷ 2 ∷ []) refl
-    (path-sub (kind.ControlMessage d) kind.ControlIHave Anew 1 (2 ∷ []) refl (path-id kind.ControlIHave 2 refl))
+    path-sub (d .mode) (kind.Rpc (d .edition)) (kind.ControlMessage (d .edition)) Merged 3 (1 ∷ 2 ∷ []) refl
+    (path-sub (d .mode) (kind.ControlMessage (d .edition)) kind.ControlIHave Anew 1 (2 ∷ []) refl
+    (path-id (d .mode) kind.ControlIHave 2 refl))
 
-pub iwant-counted : (d : Dialect) (s : List ℕ) (r : ℕ) → counted (kind.Rpc d) s ≡ Records r
-    → length (atPath (3 ∷ 2 ∷ 1 ∷ []) s) ≤ r
+pub iwant-counted : (d : Dialect) (s : List ℕ) (r : ℕ) → counted (d .mode) (kind.Rpc (d .edition)) s ≡ Records r
+    → length (atPath (d .mode) (3 ∷ 2 ∷ 1 ∷ []) s) ≤ r
 unfolding roleOf
 iwant-counted d =
-    path-sub (kind.Rpc d) (kind.ControlMessage d) Merged 3 (2 ∷ 1 ∷ []) refl
-    (path-sub (kind.ControlMessage d) kind.ControlIWant Anew 2 (1 ∷ []) refl (path-id kind.ControlIWant 1 refl))
+    path-sub (d .mode) (kind.Rpc (d .edition)) (kind.ControlMessage (d .edition)) Merged 3 (2 ∷ 1 ∷ []) refl
+    (path-sub (d .mode) (kind.ControlMessage (d .edition)) kind.ControlIWant Anew 2 (1 ∷ []) refl
+    (path-id (d .mode) kind.ControlIWant 1 refl))
 
-pub path-counted : (d : Dialect) (s : List ℕ) (r : ℕ) → counted (kind.Rpc d) s ≡ Records r
-    → (length (atPath (3 ∷ 1 ∷ 2 ∷ []) s) ≤ r) × (length (atPath (3 ∷ 2 ∷ 1 ∷ []) s) ≤ r)
+pub path-counted : (d : Dialect) (s : List ℕ) (r : ℕ) → counted (d .mode) (kind.Rpc (d .edition)) s ≡ Records r
+    → (length (atPath (d .mode) (3 ∷ 1 ∷ 2 ∷ []) s) ≤ r) × (length (atPath (d .mode) (3 ∷ 2 ∷ 1 ∷ []) s) ≤ r)
 path-counted d s r e = (ihave-counted d s r e, iwant-counted d s r e)
 
-pub path-accepted : (d : Dialect) (s : List ℕ) → acceptOf d s ≡ Fine → (length (atPath (3 ∷ 1 ∷ 2 ∷ []) s) ≤ 512)
-    × (length (atPath (3 ∷ 2 ∷ 1 ∷ []) s) ≤ 512)
+pub path-accepted : (d : Dialect) (s : List ℕ) → acceptOf d s ≡ Fine
+    → (length (atPath (d .mode) (3 ∷ 1 ∷ 2 ∷ []) s) ≤ 512)
+    × (length (atPath (d .mode) (3 ∷ 2 ∷ 1 ∷ []) s) ≤ 512)
 path-accepted d s h = let t = accept-records d s h in let p = path-counted d s (t .0) (t .1) in let m = t .2 in
     (omega arith, omega arith)
 
 -- and of IDONTWANTs, which only 1.2 has
-pub idontwant-counted : (s : List ℕ) (r : ℕ) → counted (kind.Rpc (spoken V12)) s ≡ Records r
-    → length (atPath (3 ∷ 5 ∷ 1 ∷ []) s) ≤ r
+pub idontwant-counted : (mode : Mode) (s : List ℕ) (r : ℕ) → counted mode (kind.Rpc V12) s ≡ Records r
+    → length (atPath mode (3 ∷ 5 ∷ 1 ∷ []) s) ≤ r
 unfolding roleOf
-idontwant-counted =
-    let d = spoken V12 in
-    path-sub (kind.Rpc d) (kind.ControlMessage d) Merged 3 (5 ∷ 1 ∷ []) refl
-    (path-sub (kind.ControlMessage d) kind.ControlIDontWant Anew 5 (1 ∷ []) refl (path-id kind.ControlIDontWant 1 refl))
+idontwant-counted mode =
+    path-sub mode (kind.Rpc V12) (kind.ControlMessage V12) Merged 3 (5 ∷ 1 ∷ []) refl
+    (path-sub mode (kind.ControlMessage V12) kind.ControlIDontWant Anew 5 (1 ∷ []) refl
+    (path-id mode kind.ControlIDontWant 1 refl))
 
-pub idontwant-accepted : (s : List ℕ) → acceptOf (spoken V12) s ≡ Fine → length (atPath (3 ∷ 5 ∷ 1 ∷ []) s) ≤ 512
-idontwant-accepted s h =
-    let t = accept-records (spoken V12) s h in let p = idontwant-counted s (t .0) (t .1) in let m = t .2 in omega arith
+pub idontwant-accepted : (mode : Mode) (s : List ℕ) → acceptOf (spoken mode V12) s ≡ Fine
+    → length (atPath mode (3 ∷ 5 ∷ 1 ∷ []) s) ≤ 512
+idontwant-accepted mode s h =
+    let t = accept-records (spoken mode V12) s h in
+    let p = idontwant-counted mode s (t .0) (t .1) in let m = t .2 in omega arith

@@ -9,7 +9,7 @@ use lib.Seq.{sets}
 use lib.Dec.{leb}
 use Rattle.basis.specs.declared.Edition.{Edition}
 use Rattle.basis.specs.declared.Edition.the-variants.{V12}
-use Rattle.basis.specs.Dialect.{spoken}
+use Rattle.basis.specs.Dialect.{modeOf, spoken}
 use Rattle.basis.specs.Cases.{either, clash, both}
 use Rattle.rows.specs.Rows.{newest}
 use Rattle.rows.specs.Ids.{sameBytes, among}
@@ -88,15 +88,15 @@ held-drop i k ms h = rw (map-drop (λ (x : Cached). x .id) k ms) (among-drop i k
 
 module _ (at : ℕ) (m id : List ℕ) (g : Gateway) (fresh : isNew at m id g ≡ true) where
   -- an id that was new is seen afterwards
-  pub new-is-seen : (g .max-seen ≡ 0 → ⊥) → holds (formOf m id) (afterAdmit at m id g .seen) ≡ true
+  pub new-is-seen : (g .max-seen ≡ 0 → ⊥) → holds (formOf (modeOf (g .flags)) m id) (afterAdmit at m id g .seen) ≡ true
   unfolding afterAdmit isNew inserted
   new-is-seen some =
       let es = live at (g .seen) in
       rw (
-        sym (Bool·not-not (holds (formOf m id) es)) ∙ ap not fresh,
-        newest-more (g .max-seen) es (record { id = formOf m id; expiry = until at (g .ttl) }) some,
+        sym (Bool·not-not (holds (formOf (modeOf (g .flags)) m id) es)) ∙ ap not fresh,
+        newest-more (g .max-seen) es (record { id = formOf (modeOf (g .flags)) m id; expiry = until at (g .ttl) }) some,
       )
-      (holds-last (formOf m id) (drop ((length es + 1) - g .max-seen) es) (until at (g .ttl)))
+      (holds-last (formOf (modeOf (g .flags)) m id) (drop ((length es + 1) - g .max-seen) es) (until at (g .ttl)))
 
   -- and its message is served
   pub new-is-served : (g .max-messages ≡ 0 → ⊥) → held id (g .cache) ≡ false
@@ -135,11 +135,12 @@ module _ (n : Node) (ss cs : List ℕ) (ed : Edition) (body : List ℕ) (i : ℕ
         either (isNew at m id (gatewayIn n ss cs)) (λ t. t) (λ t. clash (let z = rw (t, says) at s in cc))
 
     -- what was taken without a signature was allowed
-    allowed : isSigned m ≡ false → allowsUnsigned (n .cache .flags) ≡ true
+    allowed : isSigned (modeOf (n .cache .flags)) m ≡ false → allowsUnsigned (n .cache .flags) ≡ true
     allowed u =
         let t = plan-takes n ss cs ed body i word at m id .0 plan in
         either (allowsUnsigned (n .cache .flags)) (λ on. on)
-        (λ off. clash (let z = fit-signed (n .cache .flags) m word (t .from-start) (t .from-end) (t .seqno-start) (t .seqno-end)
+        (λ off. clash (let z = fit-signed (n .cache .flags) m word (t .from-start) (t .from-end) (t .seqno-start)
+        (t .seqno-end)
         (t .fit) off in cc))
 
     pub admitted-not-asked : (n .«max_seen» ≡ 0 → ⊥)
@@ -152,7 +153,7 @@ module _ (n : Node) (ss cs : List ℕ) (ed : Edition) (body : List ℕ) (i : ℕ
         (admitCache n ss cs at (planned n ss cs ed body i word at)) (id ∷ [])
         ∙ ap (λ (g : Gateway). lacking g (id ∷ [])) (admit-gateway n ss cs ed body i word at m id typed plan)
         ∙ seen-not-asked (afterAdmit at m id (gatewayIn n ss cs)) id
-        (form-known (afterAdmit at m id (gatewayIn n ss cs)) id (isSigned m) allowed
+        (form-known (afterAdmit at m id (gatewayIn n ss cs)) id (isSigned (modeOf (n .cache .flags)) m) allowed
         (new-is-seen at m id (gatewayIn n ss cs) was-new some))
 
     pub admitted-served : (n .cache .«max_messages» ≡ 0 → ⊥) → held id (cachedIn (n .cache) cs) ≡ false
@@ -192,15 +193,16 @@ unfolding among
 written-for i [] x h = clash (cc)
 written-for i (j ∷ is) x h = refl
 
-pub ask-asks : (n : Node) (ss cs body i : List ℕ) → among i (offered body) ≡ true
+pub ask-asks : (n : Node) (ss cs body i : List ℕ) → among i (offered (modeOf (n .cache .flags)) body) ≡ true
     → knows (gatewayIn n ss cs) i ≡ false
-    → (among i (unseenOf n ss (offered body)) ≡ true)
-    × (askBytes n ss body ≡ encodeRpc (request (unseenOf n ss (offered body))))
+    → (among i (unseenOf n ss (offered (modeOf (n .cache .flags)) body)) ≡ true)
+    × (askBytes n ss body ≡ encodeRpc (request (unseenOf n ss (offered (modeOf (n .cache .flags)) body))))
 unfolding askBytes
 ask-asks n ss cs body i h k =
-    let e : among i (unseenOf n ss (offered body)) ≡ true = ap (among i) (unseen-gateway n ss cs (offered body))
-    ∙ asked-exactly (gatewayIn n ss cs) i (offered body) ∙ rw (h, k) in
-    (e, written-for i (unseenOf n ss (offered body)) (request (unseenOf n ss (offered body))) e)
+    let is = offered (modeOf (n .cache .flags)) body in
+    let e : among i (unseenOf n ss is) ≡ true = ap (among i) (unseen-gateway n ss cs is)
+    ∙ asked-exactly (gatewayIn n ss cs) i is ∙ rw (h, k) in
+    (e, written-for i (unseenOf n ss is) (request (unseenOf n ss is)) e)
 
 -- ---- serve sends again in every round
 -- node k comes after any number of advertises, asks and serves from node n on, as their contracts have them; the stores
@@ -231,13 +233,15 @@ reply-same (m ∷ ms) out out2 e = (rw e, rw e)
 unfoldable pub servedBytes : Node → List ℕ → List ℕ → Edition → List ℕ → List ℕ → List ℕ → List ℕ
 servedBytes n ss cs ed body second out =
     whenFine (lentOf n ss cs)
-    (whenTaken (acceptOf (spoken ed) body)
-    (whenTaken (acceptOf (spoken V12) second) (replyBytes (cachedOf (n .cache) cs (remaining body second)) out) []) [])
+    (whenTaken (acceptOf (spoken (modeOf (n .cache .flags)) ed) body)
+    (whenTaken (acceptOf (spoken (modeOf (n .cache .flags)) V12) second)
+    (replyBytes (cachedOf (n .cache) cs (remaining (modeOf (n .cache .flags)) body second)) out) []) [])
     []
 
 module _ (n : Node) (ss cs : List ℕ) (ed : Edition) (body second : List ℕ) where
-  writes-by : (out : List ℕ) (l : Lent) (r q : Checked) → lentOf n ss cs ≡ l → acceptOf (spoken ed) body ≡ r
-      → acceptOf (spoken V12) second ≡ q
+  writes-by : (out : List ℕ) (l : Lent) (r q : Checked) → lentOf n ss cs ≡ l
+      → acceptOf (spoken (modeOf (n .cache .flags)) ed) body ≡ r
+      → acceptOf (spoken (modeOf (n .cache .flags)) V12) second ≡ q
       → serveLeft n ss cs ed body second out ≡ sets out 0 (servedBytes n ss cs ed body second out)
   unfolding serveLeft servedBytes
   writes-by out (lent.Faulty why) r q e a b = rw e
@@ -248,14 +252,15 @@ module _ (n : Node) (ss cs : List ℕ) (ed : Edition) (body second : List ℕ) w
   pub serve-writes : (out : List ℕ)
       → serveLeft n ss cs ed body second out ≡ sets out 0 (servedBytes n ss cs ed body second out)
   serve-writes out =
-      writes-by out (lentOf n ss cs) (acceptOf (spoken ed) body) (acceptOf (spoken V12) second) refl refl refl
+      writes-by out (lentOf n ss cs) (acceptOf (spoken (modeOf (n .cache .flags)) ed) body)
+      (acceptOf (spoken (modeOf (n .cache .flags)) V12) second) refl refl refl
 
   same-length : (out out2 : List ℕ) → length out2 ≡ length out
       → (serveAnswer n ss cs ed body second out2 ≡ serveAnswer n ss cs ed body second out)
       × (servedBytes n ss cs ed body second out2 ≡ servedBytes n ss cs ed body second out)
   unfolding serveAnswer servedBytes
   same-length out out2 e =
-      let r = reply-same (cachedOf (n .cache) cs (remaining body second)) out out2 e in
+      let r = reply-same (cachedOf (n .cache) cs (remaining (modeOf (n .cache .flags)) body second)) out out2 e in
       rw (r .0, r .1) (refl, refl)
 
 -- the same request later, with the same second body and a buffer as long, gets the same answer and the same bytes
@@ -303,7 +308,8 @@ pub last-beat : (n : Node) (ss cs : List ℕ) → lentOf n ss cs ≡ lent.Fine �
 last-beat n ss cs fine h = beat-says n ss cs (2 ^ 64 - 1) fine (omega arith)
 
 pub last-admit : (n : Node) (ss cs : List ℕ) (ed : Edition) (body : List ℕ) (i a e x y z w : ℕ)
-    → lentOf n ss cs ≡ lent.Fine → acceptOf (spoken ed) body ≡ checked.Fine → messageAt body i ≡ found.At a e
+    → lentOf n ss cs ≡ lent.Fine → acceptOf (spoken (modeOf (n .cache .flags)) ed) body ≡ checked.Fine
+    → messageAt (modeOf (n .cache .flags)) body i ≡ found.At a e
     → admissionOf (n .cache .flags) (between body a e) true ≡ admission.Fit x y z w → n .clock < 2 ^ 64
     → planned n ss cs ed body i true (2 ^ 64 - 1) ≡ taken (between body a e) (idBytes (between body a e) x y z w)
 last-admit n ss cs ed body i a e x y z w fine ok there fit h =

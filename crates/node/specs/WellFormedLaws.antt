@@ -10,6 +10,7 @@ use native.Mathlib.Nat.{zero-lt-suc}
 use lib.ListN.{length, drop, getD}
 use lib.Dec.{leb}
 use borrow.Author.Tests.{le-leb, leb-true}
+use Rattle.basis.specs.Dialect.{modeOf}
 use Rattle.basis.specs.declared.Edition.{Edition}
 use Rattle.basis.specs.Cases.{either, both}
 use Rattle.rows.specs.declared.Ring.{Ring}
@@ -218,7 +219,8 @@ module _ (at : ℕ) (g : Gateway) (h : g .clock ≤ at) (o : Ordered g) where
   pub admit-ordered : (m id : List ℕ) → Ordered (afterAdmit at m id g)
   unfolding afterAdmit
   admit-ordered m id =
-      order-inserted (until (g .clock) (g .ttl)) (g .max-seen) at (g .ttl) (formOf m id) (live at (g .seen))
+      order-inserted (until (g .clock) (g .ttl)) (g .max-seen) at (g .ttl) (formOf (modeOf (g .flags)) m id)
+      (live at (g .seen))
       (until-later (g .clock) at (g .ttl) h)
       (order-live (until (g .clock) (g .ttl)) at (g .seen) o)
 
@@ -300,21 +302,21 @@ begun-keeps ttl max-seen history max flags ss cs l r s =
 module _ (n : Node) (ss cs : List ℕ) (at : ℕ) (m id : List ℕ) (typed : Typed n) (fine : lentOf n ss cs ≡ lent.Fine)
     (k : length id ≤ messageIdSize) where
   abbrev seenAfter : SeenCache
-  seenAfter = insertCache (n .«max_seen») at (n .ttl) (swept n at) ss (formOf m id)
+  seenAfter = insertCache (n .«max_seen») at (n .ttl) (swept n at) ss (formOf (modeOf (n .cache .flags)) m id)
 
   abbrev storeAfter : List ℕ
-  storeAfter = insertStore (n .«max_seen») (swept n at) ss (formOf m id)
+  storeAfter = insertStore (n .«max_seen») (swept n at) ss (formOf (modeOf (n .cache .flags)) m id)
 
   abbrev cacheAfter : MessageCache
-  cacheAfter = cond (heldAt n ss at (formOf m id)) (n .cache) (keptUnder m id (n .cache))
+  cacheAfter = cond (heldAt n ss at (formOf (modeOf (n .cache .flags)) m id)) (n .cache) (keptUnder m id (n .cache))
 
   node-after : admitNode n ss at (taken m id) ≡ laterNode at seenAfter cacheAfter n
   node-after =
-      rw (← seen-inserted n ss cs fine at (typed .ids) (formOf m id) (omega arith))
-      (either (heldAt n ss at (formOf m id)) (λ u. rw u) (λ u. rw u))
+      rw (← seen-inserted n ss cs fine at (typed .ids) (formOf (modeOf (n .cache .flags)) m id) (omega arith))
+      (either (heldAt n ss at (formOf (modeOf (n .cache .flags)) m id)) (λ u. rw u) (λ u. rw u))
 
   store-after : admitSeen n ss at (taken m id) ≡ storeAfter
-  store-after = store-inserted n ss cs fine at (typed .ids) (formOf m id) (omega arith)
+  store-after = store-inserted n ss cs fine at (typed .ids) (formOf (modeOf (n .cache .flags)) m id) (omega arith)
 
   taken-keeps : length m ≤ messageSize → givesId (n .cache .flags) m id ≡ true
       → Ordered (gatewayIn (admitNode n ss at (taken m id)) (admitSeen n ss at (taken m id))
@@ -325,21 +327,22 @@ module _ (n : Node) (ss cs : List ℕ) (at : ℕ) (m id : List ℕ) (typed : Typ
       let f = swept-fine n ss cs fine at (typed .ids) in
       let z = swept-sized n ss cs fine at (typed .ids) in
       let stores : cacheLentOf cacheAfter (admitCache n ss cs at (taken m id)) ≡ cacheLent.Fine =
-      either (heldAt n ss at (formOf m id)) (λ u. rw u (t .messages))
+      either (heldAt n ss at (formOf (modeOf (n .cache .flags)) m id)) (λ u. rw u (t .messages))
       (λ u. rw u (under-fine (n .cache) cs m id (t .messages) (typed .messages .sized) small k own)) in
-      let types : cacheTyped cacheAfter = either (heldAt n ss at (formOf m id)) (λ u. rw u (typed .messages))
+      let types : cacheTyped cacheAfter = either (heldAt n ss at (formOf (modeOf (n .cache .flags)) m id))
+      (λ u. rw u (typed .messages))
       (λ u. rw u (under-typed m id (n .cache) (typed .messages))) in
       let p = rw (node-after, store-after) at o in
       rw (node-after, store-after)
       (record {
         fine =
             later-fine n ss cs storeAfter (admitCache n ss cs at (taken m id)) at seenAfter cacheAfter t
-            (insert-length (n .«max_seen») (swept n at) ss (formOf m id) .0)
-            (insert-fine (swept n at) ss f z (n .«max_seen») at (n .ttl) (formOf m id))
+            (insert-length (n .«max_seen») (swept n at) ss (formOf (modeOf (n .cache .flags)) m id) .0)
+            (insert-fine (swept n at) ss f z (n .«max_seen») at (n .ttl) (formOf (modeOf (n .cache .flags)) m id))
             (later-rises n storeAfter (admitCache n ss cs at (taken m id)) at seenAfter cacheAfter p)
             stores;
         typed = later-typed n at seenAfter cacheAfter (insert-sized (swept n at) ss f z (n .«max_seen») at (n .ttl)
-            (formOf m id)) types;
+            (formOf (modeOf (n .cache .flags)) m id)) types;
         ordered = p;
       })
 
@@ -423,5 +426,6 @@ reached-well-formed {n} {ss} {cs} r = fine-well-formed-node n ss cs (reached-typ
 -- after any history, evictions, windows opened and places used again too, the places kept beside a message are those of
 -- its topics
 pub reached-topics : {n : Node} {ss cs : List ℕ} → Reached n ss cs → (i : ℕ) → i < n .cache .count
-    → topicsAt (tableOf (n .cache)) (rowOf (n .cache) i) ≡ topicPlaces (messageIn (n .cache .len) cs (rowOf (n .cache) i))
+    → topicsAt (tableOf (n .cache)) (rowOf (n .cache) i)
+    ≡ topicPlaces (modeOf (n .cache .flags)) (messageIn (n .cache .len) cs (rowOf (n .cache) i))
 reached-topics r = reached-well-formed r .messages .topics

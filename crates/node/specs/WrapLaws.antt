@@ -8,7 +8,7 @@ use native.Mathlib.Omega.{arith}
 use lib.ListN.{length}
 use lib.Dec.{eqb}
 use Rattle.basis.specs.declared.Edition.{Edition}
-use Rattle.basis.specs.Dialect.{spoken}
+use Rattle.basis.specs.Dialect.{modeOf, spoken}
 use Rattle.basis.specs.Cases.{either, clash, both}
 use Rattle.protobuf.specs.declared.Checked.{Checked}
 use Rattle.protobuf.specs.declared.Checked.the-variants as checked
@@ -98,6 +98,11 @@ module _ (k : ℕ) (n : Node) (ss cs : List ℕ) (typed : Typed n) where
   lent-moved = rw (sizes-moved k n ss cs)
       (either (rightSizes n ss cs) (λ u. rw (u, form-moved u)) (λ u. rw u))
 
+  -- ---- the mode
+  mode-moved : modeOf (movedNode k n .cache .flags) ≡ modeOf (n .cache .flags)
+  unfolding movedNode moved
+  mode-moved = refl
+
   -- ---- admit
   module _ (ed : Edition) (body : List ℕ) (i : ℕ) (word : Bool) (at : ℕ) where
     fit-moved : (p : List ℕ) (r : Admission) → planFit (movedNode k n) at p r ≡ planFit n at p r
@@ -111,12 +116,14 @@ module _ (k : ℕ) (n : Node) (ss cs : List ℕ) (typed : Typed n) where
     at-moved (found.At a e) = fit-moved (between body a e) (admissionOf (n .cache .flags) (between body a e) word)
 
     body-moved : (r : Checked) → planBody (movedNode k n) at word body i r ≡ planBody n at word body i r
+    unfolding movedNode moved
     body-moved (checked.Refused why) = refl
-    body-moved checked.Fine = at-moved (messageAt body i)
+    body-moved checked.Fine = at-moved (messageAt (modeOf (n .cache .flags)) body i)
 
     pub plan-moved : planned (movedNode k n) ss cs ed body i word at ≡ planned n ss cs ed body i word at
     unfolding planned
-    plan-moved = rw (lent-moved, body-moved (acceptOf (spoken ed) body))
+    plan-moved =
+        rw (lent-moved, mode-moved, body-moved (acceptOf (spoken (modeOf (n .cache .flags)) ed) body))
 
     module _ (m id : List ℕ) (t : Takes n ss cs ed body i word at m id) where
       under-moved : planUnder (moved k (n .cache)) m id ≡ putPlanned (moved k (n .cache)) cs ed body i
@@ -138,19 +145,20 @@ module _ (k : ℕ) (n : Node) (ss cs : List ℕ) (typed : Typed n) where
           ∙ ap (storedIn (n .cache) cs) (plan-put t)
 
       node-moved : admitNode (movedNode k n) ss at (taken m id) ≡ movedNode k (admitNode n ss at (taken m id))
-      unfolding heldAt swept laterNode movedNode
-      node-moved = rw kept-moved (either (heldAt n ss at (formOf m id)) (λ u. rw u) (λ u. rw u))
+      unfolding heldAt swept laterNode movedNode moved
+      node-moved = rw kept-moved (either (heldAt n ss at (formOf (modeOf (n .cache .flags)) m id)) (λ u. rw u)
+          (λ u. rw u))
 
       store-moved : admitCache (movedNode k n) ss cs at (taken m id) ≡ admitCache n ss cs at (taken m id)
-      unfolding heldAt swept movedNode
+      unfolding heldAt swept movedNode moved
       store-moved = rw stored-moved
 
     answer-moved : (m id : List ℕ) → admitAnswer (movedNode k n) ss at (taken m id) ≡ admitAnswer n ss at (taken m id)
-    unfolding heldAt swept movedNode
+    unfolding heldAt swept movedNode moved
     answer-moved m id = refl
 
     ids-moved : (m id : List ℕ) → admitSeen (movedNode k n) ss at (taken m id) ≡ admitSeen n ss at (taken m id)
-    unfolding heldAt swept movedNode
+    unfolding heldAt swept movedNode moved
     ids-moved m id = refl
 
     admit-by : (r : Plan) → planned n ss cs ed body i word at ≡ r
@@ -233,19 +241,20 @@ module _ (k : ℕ) (n : Node) (ss cs : List ℕ) (typed : Typed n) where
       → (askAnswer (movedNode k n) ss cs ed body out ≡ askAnswer n ss cs ed body out)
       × (askLeft (movedNode k n) ss cs ed body out ≡ askLeft n ss cs ed body out)
   unfolding askAnswer askLeft
-  ask-moved ed body out = (rw (lent-moved, asked-moved body), rw (lent-moved, asked-moved body))
+  ask-moved ed body out =
+      let a = asked-moved body in (rw (lent-moved, mode-moved, a), rw (lent-moved, mode-moved, a))
 
-  served-moved : (is : List (List ℕ)) → cachedOf (moved k (n .cache)) cs is ≡ cachedOf (n .cache) cs is
-  unfolding cachedOf moved
+  served-moved : (is : List (List ℕ)) → cachedOf (movedNode k n .cache) cs is ≡ cachedOf (n .cache) cs is
+  unfolding cachedOf movedNode moved
   served-moved is = refl
 
   pub serve-moved : (ed : Edition) (body second out : List ℕ)
       → (serveAnswer (movedNode k n) ss cs ed body second out ≡ serveAnswer n ss cs ed body second out)
       × (serveLeft (movedNode k n) ss cs ed body second out ≡ serveLeft n ss cs ed body second out)
-  unfolding serveAnswer serveLeft movedNode
+  unfolding serveAnswer serveLeft
   serve-moved ed body second out =
-      let s = served-moved (remaining body second) in
-      (rw (lent-moved, s), rw (lent-moved, s))
+      let s = served-moved (remaining (modeOf (n .cache .flags)) body second) in
+      (rw (lent-moved, mode-moved, s), rw (lent-moved, mode-moved, s))
 
 -- ---- what a call leaves has the types of a node, so that the same holds for the calls after it
 module _ (n : Node) (ss cs : List ℕ) (typed : Typed n) where
@@ -257,12 +266,14 @@ module _ (n : Node) (ss cs : List ℕ) (typed : Typed n) where
       let t = plan-takes n ss cs ed body i word at m id .0 e in
       let z = swept-sized n ss cs (t .fine) at (typed .ids) in
       let f = swept-fine n ss cs (t .fine) at (typed .ids) in
-      let s = seen-inserted n ss cs (t .fine) at (typed .ids) (formOf m id) (omega (arith, takes-id-small t)) in
-      either (heldAt n ss at (formOf m id))
+      let s = seen-inserted n ss cs (t .fine) at (typed .ids) (formOf (modeOf (n .cache .flags)) m id)
+      (omega (arith, takes-id-small t)) in
+      either (heldAt n ss at (formOf (modeOf (n .cache .flags)) m id))
       (λ u. rw u (record { ids = z; messages = typed .messages }))
       (λ u. rw u
       (record {
-        ids = rw (rw u at s) (insert-sized (swept n at) ss f z (n .«max_seen») at (n .ttl) (formOf m id));
+        ids = rw (rw u at s) (insert-sized (swept n at) ss f z (n .«max_seen») at (n .ttl)
+            (formOf (modeOf (n .cache .flags)) m id));
         messages = under-typed m id (n .cache) (typed .messages);
       }))
 

@@ -551,7 +551,7 @@ impl Node {
         at: u64,
     ) -> Admitted
         requires { ⌜ Ready self (now «seen_store») (now «cache_store») ⌝ }
-        requires { ⌜ (length (now part) ≤ messageSize) × (length (now key) ≤ idSize) × (now key ≡ formOf (now part) (drop 1 (now key))) ⌝ }
+        requires { ⌜ (length (now part) ≤ messageSize) × (length (now key) ≤ idSize) × (now key ≡ formOf (modeOf (self .cache .flags)) (now part) (drop 1 (now key))) ⌝ }
         ensures { λ r. ⌜ r .answer ≡ admitAnswer self (now («seen_store» .entry)) at (taken (now (part .entry)) (drop 1 (now (key .entry)))) ⌝ }
         ensures { λ r. ⌜ r .node ≡ admitNode self (now («seen_store» .entry)) at (taken (now (part .entry)) (drop 1 (now (key .entry)))) ⌝ }
         ensures { λ _. ⌜ now («seen_store» .exit) ≡ admitSeen self (now («seen_store» .entry)) at (taken (now (part .entry)) (drop 1 (now (key .entry)))) ⌝ }

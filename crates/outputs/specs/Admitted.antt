@@ -8,7 +8,7 @@ use lib.ListN.{length}
 use lib.Dec.{ltb}
 use borrow.Author.Tests.{ltb-true, ltb-false, lt-ltb, le-ltb}
 use Rattle.basis.specs.declared.Edition.{Edition}
-use Rattle.basis.specs.Dialect.{spoken}
+use Rattle.basis.specs.Dialect.{modeOf, spoken}
 use Rattle.basis.specs.Cases.{either}
 use Rattle.basis.specs.Bytes.{Bytes}
 use Rattle.basis.specs.declared.Told.{Told}
@@ -52,7 +52,7 @@ pub record AdmitTakes (n : Node) (ss cs : List ℕ) (ed : Edition) (body : List 
     (m id : List ℕ) : Type 0 where
   pub fine : lentOf n ss cs ≡ lent.Fine
   pub rpc : Rpc
-  pub within : Within (spoken ed) body rpc
+  pub within : Within (spoken (modeOf (n .cache .flags)) ed) body rpc
   pub message : RawMessage
   pub indexed : Nth i (rpc .publish) message
   pub raw : message .raw ≡ m
@@ -71,22 +71,22 @@ pub data AdmitTells (n : Node) (ss cs : List ℕ) (ed : Edition) (body : List �
   -- 40, 41, 42
   faulty : {why : Fault} → lentOf n ss cs ≡ lent.Faulty why → AdmitTells n ss cs ed body i word at (faultTold why)
   -- 10, 1 to 7, 11
-  refuses : {a : Told} → lentOf n ss cs ≡ lent.Fine → Refusal (spoken ed) body a
+  refuses : {a : Told} → lentOf n ss cs ≡ lent.Fine → Refusal (spoken (modeOf (n .cache .flags)) ed) body a
       → AdmitTells n ss cs ed body i word at a
   -- 20: no message at that index, with the number of messages
-  no-such : {x : Rpc} → lentOf n ss cs ≡ lent.Fine → Within (spoken ed) body x → length (x .publish) ≤ i
+  no-such : {x : Rpc} → lentOf n ss cs ≡ lent.Fine → Within (spoken (modeOf (n .cache .flags)) ed) body x → length (x .publish) ≤ i
       → AdmitTells n ss cs ed body i word at (told no-message (length (x .publish) ∷ []))
   -- 21 to 30 and 34 to 36
-  unfit : {x : Rpc} {m : RawMessage} {why : Unfit} → lentOf n ss cs ≡ lent.Fine → Within (spoken ed) body x
+  unfit : {x : Rpc} {m : RawMessage} {why : Unfit} → lentOf n ss cs ≡ lent.Fine → Within (spoken (modeOf (n .cache .flags)) ed) body x
       → Nth i (x .publish) m → admissionOf (n .cache .flags) (m .raw) word ≡ admission.Unfit why
       → AdmitTells n ss cs ed body i word at (unfitTold why)
   -- 31: now below the clock, with the clock
-  back : {x : Rpc} {m : RawMessage} {a e b f : ℕ} → lentOf n ss cs ≡ lent.Fine → Within (spoken ed) body x
+  back : {x : Rpc} {m : RawMessage} {a e b f : ℕ} → lentOf n ss cs ≡ lent.Fine → Within (spoken (modeOf (n .cache .flags)) ed) body x
       → Nth i (x .publish) m → admissionOf (n .cache .flags) (m .raw) word ≡ admission.Fit a e b f → at < n .clock
       → AdmitTells n ss cs ed body i word at (told clock-back (n .clock ∷ []))
   -- 1 where the id of the message is new, 0 where it is not
   says : {x : Rpc} {m : RawMessage} {a e b f : ℕ} {id : List ℕ} → lentOf n ss cs ≡ lent.Fine
-      → Within (spoken ed) body x
+      → Within (spoken (modeOf (n .cache .flags)) ed) body x
       → Nth i (x .publish) m → admissionOf (n .cache .flags) (m .raw) word ≡ admission.Fit a e b f → n .clock ≤ at
       → messageId m ≡ the-id id
       → AdmitTells n ss cs ed body i word at (done (cond (isNew at (m .raw) id (gatewayIn n ss cs)) 1 0 ∷ []))
@@ -95,11 +95,11 @@ module _ (n : Node) (ss cs : List ℕ) (ed : Edition) (body : List ℕ) (i : ℕ
     (m id : List ℕ) where
   of-rpc : AdmitTakes n ss cs ed body i word at m id → Takes n ss cs ed body i word at m id
   of-rpc t =
-      let f = found-in i (messageAt body i) (t .within .means) (t .indexed) refl in
-      let b : m ≡ between body (f .0) (f .1) = sym (t .raw) ∙ raw-is (f .3) in
+      let f = found-in i (messageAt (modeOf (n .cache .flags)) body i) (t .within .means) (t .indexed) refl in
+      let b : m ≡ between body (f .0) (f .1) = sym (t .raw) ∙ raw-is (modeOf (n .cache .flags)) (f .3) in
       let own : messageId (t .message) ≡ the-id (idBytes m (t .from-start) (t .from-end) (t .seqno-start) (t .seqno-end)) =
-      id-named (t .from-start) (t .from-end) (t .seqno-start) (t .seqno-end)
-      (subst (λ (p : List ℕ). IsMessage p (t .message)) (sym b) (f .3))
+      id-named (modeOf (n .cache .flags)) (t .from-start) (t .from-end) (t .seqno-start) (t .seqno-end)
+      (subst (λ (p : List ℕ). IsMessage (modeOf (n .cache .flags)) p (t .message)) (sym b) (f .3))
       (fit-parts (n .cache .flags) m word (t .from-start) (t .from-end) (t .seqno-start) (t .seqno-end) (t .fit)) in
       let e : the-id id ≡ the-id (idBytes m (t .from-start) (t .from-end) (t .seqno-start) (t .seqno-end)) =
       sym (t .named) ∙ own in
@@ -121,7 +121,7 @@ module _ (n : Node) (ss cs : List ℕ) (ed : Edition) (body : List ℕ) (i : ℕ
 
   in-rpc : Bytes body → Takes n ss cs ed body i word at m id → AdmitTakes n ss cs ed body i word at m id
   in-rpc b t =
-      let x = taken-exactly (spoken ed) body b .0 (t .accepted) in
+      let x = taken-exactly (spoken (modeOf (n .cache .flags)) ed) body b .0 (t .accepted) in
       let f = message-found i (t .start) (t .next) (x .1 .means) (t .there) in
       record {
         fine = t .fine;
@@ -129,14 +129,14 @@ module _ (n : Node) (ss cs : List ℕ) (ed : Edition) (body : List ℕ) (i : ℕ
         within = x .1;
         message = f .0;
         indexed = f .1;
-        raw = raw-is (f .2) ∙ sym (t .bytes);
+        raw = raw-is (modeOf (n .cache .flags)) (f .2) ∙ sym (t .bytes);
         from-start = t .from-start;
         from-end = t .from-end;
         seqno-start = t .seqno-start;
         seqno-end = t .seqno-end;
         fit = t .fit;
-        named = id-named (t .from-start) (t .from-end) (t .seqno-start) (t .seqno-end)
-            (subst (λ (p : List ℕ). IsMessage p (f .0)) (sym (t .bytes)) (f .2))
+        named = id-named (modeOf (n .cache .flags)) (t .from-start) (t .from-end) (t .seqno-start) (t .seqno-end)
+            (subst (λ (p : List ℕ). IsMessage (modeOf (n .cache .flags)) p (f .0)) (sym (t .bytes)) (f .2))
             (fit-parts (n .cache .flags) m word (t .from-start) (t .from-end) (t .seqno-start) (t .seqno-end) (t .fit))
             ∙ ap the-id (sym (t .named));
         forward = t .forward;
@@ -159,41 +159,41 @@ module _ (n : Node) (ss cs : List ℕ) (ed : Edition) (body : List ℕ) (i : ℕ
   newTold p id = done (cond (isNew at p id (gatewayIn n ss cs)) 1 0 ∷ [])
 
   new-told : lentOf n ss cs ≡ lent.Fine → (p id : List ℕ)
-      → admitTold (cond (heldAt n ss at (formOf p id)) admit.Duplicate admit.New) ≡ newTold p id
+      → admitTold (cond (heldAt n ss at (formOf (modeOf (n .cache .flags)) p id)) admit.Duplicate admit.New) ≡ newTold p id
   new-told fine p id =
-      rw (is-new n ss cs fine at p id) (either (heldAt n ss at (formOf p id)) (λ t. rw t) (λ t. rw t))
+      rw (is-new n ss cs fine at p id) (either (heldAt n ss at (formOf (modeOf (n .cache .flags)) p id)) (λ t. rw t) (λ t. rw t))
 
   -- ---- it tells one of these
-  module _ (fine : lentOf n ss cs ≡ lent.Fine) (x : Rpc) (w : Within (spoken ed) body x) where
-    of-fit : (p : List ℕ) (m : RawMessage) → Nth i (x .publish) m → IsMessage p m → (q : Admission)
+  module _ (fine : lentOf n ss cs ≡ lent.Fine) (x : Rpc) (w : Within (spoken (modeOf (n .cache .flags)) ed) body x) where
+    of-fit : (p : List ℕ) (m : RawMessage) → Nth i (x .publish) m → IsMessage (modeOf (n .cache .flags)) p m → (q : Admission)
         → admissionOf (n .cache .flags) p word ≡ q → Tells (admitTold (admitAnswer n ss at (planFit n at p q)))
     of-fit p m k g (admission.Unfit why) e =
-        let u : admissionOf (n .cache .flags) (m .raw) word ≡ admission.Unfit why = rw (raw-is g) e in unfit fine w k u
+        let u : admissionOf (n .cache .flags) (m .raw) word ≡ admission.Unfit why = rw (raw-is (modeOf (n .cache .flags)) g) e in unfit fine w k u
     of-fit p m k g (admission.Fit a z b f) e =
-        let u : admissionOf (n .cache .flags) (m .raw) word ≡ admission.Fit a z b f = rw (raw-is g) e in
+        let u : admissionOf (n .cache .flags) (m .raw) word ≡ admission.Fit a z b f = rw (raw-is (modeOf (n .cache .flags)) g) e in
         either (ltb at (n .clock)) (λ t. rw t (back fine w k u (ltb-true at (n .clock) t)))
         (λ t. rw (t, new-told fine p (idBytes p a z b f))
-        (subst (λ (l : List ℕ). Tells (newTold l (idBytes p a z b f))) (raw-is g)
+        (subst (λ (l : List ℕ). Tells (newTold l (idBytes p a z b f))) (raw-is (modeOf (n .cache .flags)) g)
         (says {id = idBytes p a z b f} fine w k u (ltb-false at (n .clock) t)
-        (id-named a z b f g (fit-parts (n .cache .flags) p word a z b f e)))))
+        (id-named (modeOf (n .cache .flags)) a z b f g (fit-parts (n .cache .flags) p word a z b f e)))))
 
-    of-at : (r : MessageAt) → messageAt body i ≡ r → Tells (admitTold (admitAnswer n ss at (planAt n at word body r)))
+    of-at : (r : MessageAt) → messageAt (modeOf (n .cache .flags)) body i ≡ r → Tells (admitTold (admitAnswer n ss at (planAt n at word body r)))
     of-at (Count k) e = let m = message-missing i k (w .means) e in rw (m .0) (no-such fine w (m .1))
     of-at (At a z) e =
         let f = message-found i a z (w .means) e in
         of-fit (between body a z) (f .0) (f .1) (f .2) (admissionOf (n .cache .flags) (between body a z) word) refl
 
-  of-body : Bytes body → lentOf n ss cs ≡ lent.Fine → (r : Checked) → acceptOf (spoken ed) body ≡ r
+  of-body : Bytes body → lentOf n ss cs ≡ lent.Fine → (r : Checked) → acceptOf (spoken (modeOf (n .cache .flags)) ed) body ≡ r
       → Tells (admitTold (admitAnswer n ss at (planBody n at word body i r)))
   of-body b fine (checked.Refused why) e =
-      refuses fine (refused-exactly (spoken ed) body (refusalTold why) b .0 (why, e, refl))
+      refuses fine (refused-exactly (spoken (modeOf (n .cache .flags)) ed) body (refusalTold why) b .0 (why, e, refl))
   of-body b fine checked.Fine e =
-      let x = taken-exactly (spoken ed) body b .0 e in of-at fine (x .0) (x .1) (messageAt body i) refl
+      let x = taken-exactly (spoken (modeOf (n .cache .flags)) ed) body b .0 e in of-at fine (x .0) (x .1) (messageAt (modeOf (n .cache .flags)) body i) refl
 
   of-lent : Bytes body → (l : Lent) → lentOf n ss cs ≡ l → Tells (admitTold (admitAnswer n ss at
-      (onLent (λ (why : Fault). no (admit.Faulty why)) l (planBody n at word body i (acceptOf (spoken ed) body)))))
+      (onLent (λ (why : Fault). no (admit.Faulty why)) l (planBody n at word body i (acceptOf (spoken (modeOf (n .cache .flags)) ed) body)))))
   of-lent b (lent.Faulty why) e = faulty e
-  of-lent b lent.Fine e = of-body b e (acceptOf (spoken ed) body) refl
+  of-lent b lent.Fine e = of-body b e (acceptOf (spoken (modeOf (n .cache .flags)) ed) body) refl
 
   tells : Bytes body → Tells (admitTold (admitAnswer n ss at (planned n ss cs ed body i word at)))
   unfolding planned
@@ -204,25 +204,25 @@ module _ (n : Node) (ss cs : List ℕ) (ed : Edition) (body : List ℕ) (i : ℕ
   unfolding planned
   only b (faulty e) = rw e
   only b {a} (refuses fine r) =
-      let g = refused-exactly (spoken ed) body a b .1 r in rw (fine, g .1) (g .2)
-  only b (no-such fine w l) = rw (fine, accepted w, none-in i (messageAt body i) (w .means) l refl)
+      let g = refused-exactly (spoken (modeOf (n .cache .flags)) ed) body a b .1 r in rw (fine, g .1) (g .2)
+  only b (no-such fine w l) = rw (fine, accepted w, none-in i (messageAt (modeOf (n .cache .flags)) body i) (w .means) l refl)
   only b (unfit fine w k e) =
-      let f = found-in i (messageAt body i) (w .means) k refl in
-      let u = rw (raw-is (f .3)) at e in
+      let f = found-in i (messageAt (modeOf (n .cache .flags)) body i) (w .means) k refl in
+      let u = rw (raw-is (modeOf (n .cache .flags)) (f .3)) at e in
       rw (fine, accepted w, f .2, u)
   only b (back fine w k e l) =
-      let f = found-in i (messageAt body i) (w .means) k refl in
-      let u = rw (raw-is (f .3)) at e in
+      let f = found-in i (messageAt (modeOf (n .cache .flags)) body i) (w .means) k refl in
+      let u = rw (raw-is (modeOf (n .cache .flags)) (f .3)) at e in
       rw (fine, accepted w, f .2, u, lt-ltb at (n .clock) l)
   only b (says {a = a} {e = z} {b = c} {f = d} {id = id} fine w k e l q) =
-      let f = found-in i (messageAt body i) (w .means) k refl in
+      let f = found-in i (messageAt (modeOf (n .cache .flags)) body i) (w .means) k refl in
       let p = between body (f .0) (f .1) in
-      let u : admissionOf (n .cache .flags) p word ≡ admission.Fit a z c d = rw (raw-is (f .3)) at e in
-      let o : the-id id ≡ the-id (idBytes p a z c d) = sym q ∙ id-named a z c d (f .3)
+      let u : admissionOf (n .cache .flags) p word ≡ admission.Fit a z c d = rw (raw-is (modeOf (n .cache .flags)) (f .3)) at e in
+      let o : the-id id ≡ the-id (idBytes p a z c d) = sym q ∙ id-named (modeOf (n .cache .flags)) a z c d (f .3)
       (fit-parts (n .cache .flags) p word a z c d u) in
       let s : idBytes p a z c d ≡ id = cc in
       rw (fine, accepted w, f .2, u, le-ltb at (n .clock) l, s)
-      (new-told fine p id ∙ ap (λ (l : List ℕ). newTold l id) (sym (raw-is (f .3))))
+      (new-told fine p id ∙ ap (λ (l : List ℕ). newTold l id) (sym (raw-is (modeOf (n .cache .flags)) (f .3))))
 
   pub admit-exactly : Bytes body → (a : Told)
       → (admitTold (admitAnswer n ss at (planned n ss cs ed body i word at)) ≡ a)

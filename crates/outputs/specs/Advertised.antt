@@ -7,6 +7,8 @@ use mathlib.Core.List.{List, [], _∷_, _++_}
 use native.Mathlib.Omega.{arith}
 use lib.ListN.{length, length-append}
 use lib.Dec.{ltb}
+use Rattle.basis.specs.declared.Mode.{Mode}
+use Rattle.basis.specs.Dialect.{modeOf}
 use Rattle.basis.specs.declared.Dialect.{Dialect}
 use Rattle.basis.specs.Cases.{either}
 use Rattle.basis.specs.Bytes.{Bytes}
@@ -46,13 +48,13 @@ record Told (ids : List (List ℕ)) (n : ℕ) : Type 0 where
   few : length ids ≤ n
   short : Each Short ids
 
-carried : (topic : List ℕ) (windows : ℕ) {ms : List Cached} → Each CachedMessage ms
-    → Told (idsOf (carrying topic windows ms)) (length ms)
+carried : (mode : Mode) (topic : List ℕ) (windows : ℕ) {ms : List Cached} → Each (CachedMessage mode) ms
+    → Told (idsOf (carrying mode topic windows ms)) (length ms)
 unfolding carrying Short
-carried topic windows none-left = record { few = omega arith; short = none-left }
-carried topic windows (_and_ {x = m} {xs = ms} p ps) =
-    let r = carried topic windows ps in
-    either (ltb (m .window) windows && among topic (topics m))
+carried mode topic windows none-left = record { few = omega arith; short = none-left }
+carried mode topic windows (_and_ {x = m} {xs = ms} p ps) =
+    let r = carried mode topic windows ps in
+    either (ltb (m .window) windows && among topic (topics mode m))
     (λ t. simp t (record { few = omega (arith, r .few); short = p .id-short and r .short }))
     (λ t. simp t (record { few = omega (arith, r .few); short = r .short }))
 
@@ -109,20 +111,20 @@ advertisement-small topic ids h t =
 module _ (c : MessageCache) (st topic : List ℕ) (windows : ℕ) (fine : cacheLentOf c st ≡ cacheLent.Fine)
     (bytes : Bytes st) where
   abbrev told : List (List ℕ)
-  told = gossipIds topic windows (cachedIn c st)
+  told = gossipIds (modeOf (c .flags)) topic windows (cachedIn c st)
 
   told-few : Told told 64
   unfolding gossipIds
   told-few =
       let t = fine-tests c st fine in
-      let r = carried topic windows (each-cached c st t bytes) in
+      let r = carried (modeOf (c .flags)) topic windows (each-cached c st t bytes) in
       let n = length-cached c st in
       ordered 64 (r .short) (omega (arith, r .few, t .few, t .within))
 
   -- a topic that some message carries is UTF-8
   told-text : (i : List ℕ) → among i told ≡ true → Utf8 topic
   told-text i h =
-      let w = gossip-exactly i topic windows (cachedIn c st) .0 h in
+      let w = gossip-exactly (modeOf (c .flags)) i topic windows (cachedIn c st) .0 h in
       each-in topic (each-in (w .entry) (each-cached c st (fine-tests c st fine) bytes) (w .cached) .message .texts)
       (w .carries)
 
@@ -158,7 +160,7 @@ module _ (n : Node) (ss cs topic : List ℕ) (windows : ℕ) (fine : lentOf n ss
   abbrev cache-fine : cacheLentOf (n .cache) cs ≡ cacheLent.Fine
   cache-fine = node-tests n ss cs fine .messages
 
-  told-is : toldIn n cs topic windows ≡ gossipIds topic windows (cachedIn (n .cache) cs)
+  told-is : toldIn n cs topic windows ≡ gossipIds (modeOf (n .cache .flags)) topic windows (cachedIn (n .cache) cs)
   unfolding toldIn
   told-is = gossip-ids (n .cache) cs topic windows cache-fine
 

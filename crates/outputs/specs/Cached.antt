@@ -8,6 +8,8 @@ use mathlib.Core.Logic.{⊎-elim}
 use native.Mathlib.Omega.{arith}
 use native.Mathlib.Nat.{zero-lt-suc}
 use lib.ListN.{length, take, drop, getD, length-take}
+use Rattle.basis.specs.declared.Mode.{Mode}
+use Rattle.basis.specs.Dialect.{modeOf}
 use Rattle.basis.specs.Bytes.{Bytes}
 use Rattle.basis.specs.Lists.{drop-bytes, take-bytes}
 use Rattle.utf8.specs.Grammar.{Utf8}
@@ -50,25 +52,25 @@ topics-values p end = refl
 topics-values p (refused why) = refl
 topics-values p (f then w) = rw (topics-values p w)
 
-pub topics-mean : {p : List ℕ} {m : RawMessage} → IsMessage p m → (m .«topic_ids» ≡ topicsOf p) × Each Utf8 (topicsOf p)
+pub topics-mean : (mode : Mode) {p : List ℕ} {m : RawMessage} → IsMessage mode p m → (m .«topic_ids» ≡ topicsOf mode p) × Each Utf8 (topicsOf mode p)
 unfolding topicsOf
-topics-mean (is-message {s = p} {es = es} g u) =
-    let e = topics-values p (fieldsOf p) ∙ values-body 4 p es g in
+topics-mean mode (is-message {s = p} {es = es} g u) =
+    let e = topics-values p (fieldsOf mode p) ∙ values-body mode 4 p es g in
     (sym e, subst (Each Utf8) (sym e) u)
 
 -- ---- a message that may be taken
-pub record Message (p : List ℕ) : Type 0 where
+pub record Message (mode : Mode) (p : List ℕ) : Type 0 where
   pub value : RawMessage
-  pub means : IsMessage p value
+  pub means : IsMessage mode p value
   pub few : length (value .«topic_ids») ≤ 4
-  pub texts : Each Utf8 (topicsOf p)
+  pub texts : Each Utf8 (topicsOf mode p)
   pub small : length p ≤ messageSize
 
-pub message-given : (flags : ℕ) (p i : List ℕ) → Bytes p → Gives flags p i → Message p
+pub message-given : (flags : ℕ) (p i : List ℕ) → Bytes p → Gives flags p i → Message (modeOf flags) p
 message-given flags p i b g =
     let l = fit-limits flags p true (g .from-start) (g .from-end) (g .seqno-start) (g .seqno-end) (g .taken) in
-    let m = message-means p b (record { records = g .records; counts = g .read }) in
-    let t = topics-mean (m .means) in
+    let m = message-means (modeOf flags) p b (record { records = g .records; counts = g .read }) in
+    let t = topics-mean (modeOf flags) (m .means) in
     record { value = m .value; means = m .means; few = rw (t .0) (l .few); texts = t .1; small = l .small }
 
 -- ---- those of a tested cache
@@ -77,7 +79,7 @@ unfolding messageIn
 bytes-in lens st p b = take-bytes (getD lens p 0) (drop (p * messageSize) st) (drop-bytes (p * messageSize) st b)
 
 module _ (c : MessageCache) (st : List ℕ) (t : Tests c st) (b : Bytes st) where
-  pub row-message : (i : ℕ) → i < c .count → Message (messageIn (c .len) st (placeOf (ringOf c) i))
+  pub row-message : (i : ℕ) → i < c .count → Message (modeOf (c .flags)) (messageIn (c .len) st (placeOf (ringOf c) i))
   row-message i h =
       let p = placeOf (ringOf c) i in
       let m = messageIn (c .len) st p in
@@ -85,8 +87,8 @@ module _ (c : MessageCache) (st : List ℕ) (t : Tests c st) (b : Bytes st) wher
       message-given (c .flags) m j (bytes-in (c .len) st p b) (gives-only (c .flags) m j (row-gives c st t i h))
 
 -- a cached message with its id
-pub record CachedMessage (m : Cached) : Type 0 where
-  pub message : Message (m .message)
+pub record CachedMessage (mode : Mode) (m : Cached) : Type 0 where
+  pub message : Message mode (m .message)
   pub id-short : length (m .id) ≤ messageIdSize
 
 id-length : (lens ids : List ℕ) (p : ℕ) → getD lens p 0 ≤ messageIdSize
@@ -95,7 +97,7 @@ unfolding idAt
 id-length lens ids p h = omega (arith, length-take (getD lens p 0) (drop (p * messageIdSize) ids))
 
 module _ (c : MessageCache) (st : List ℕ) (t : Tests c st) (b : Bytes st) where
-  row-cached : (i : ℕ) → i < c .count → CachedMessage (cachedAt c st (placeOf (ringOf c) i))
+  row-cached : (i : ℕ) → i < c .count → CachedMessage (modeOf (c .flags)) (cachedAt c st (placeOf (ringOf c) i))
   unfolding cachedAt
   row-cached i h =
       record {
@@ -103,27 +105,27 @@ module _ (c : MessageCache) (st : List ℕ) (t : Tests c st) (b : Bytes st) wher
         id-short = id-length (c .«id_len») (c .ids) (placeOf (ringOf c) i) (row-id-short c st t i h);
       }
 
-  pub each-cached : Each CachedMessage (cachedIn c st)
+  pub each-cached : Each (CachedMessage (modeOf (c .flags))) (cachedIn c st)
   unfolding cachedIn rowsIn
   each-cached = each-tab (λ (i : ℕ). cachedAt c st (placeOf (ringOf c) i)) (c .count) row-cached
 
 -- ---- messages, one by one
-pub record Messages (ps : List (List ℕ)) : Type 0 where
+pub record Messages (mode : Mode) (ps : List (List ℕ)) : Type 0 where
   pub values : List RawMessage
-  pub means : Pairs IsMessage ps values
+  pub means : Pairs (IsMessage mode) ps values
   pub raws : map (λ (m : RawMessage). m .raw) values ≡ ps
   pub few : sumOf (λ m. 1 + length (m .«topic_ids»)) values ≤ 5 * length ps
   pub sized : Each Sized ps
 
-pub all-messages : {ps : List (List ℕ)} → Each Message ps → Messages ps
-all-messages none-left = record { values = []; means = no-pairs; raws = refl; few = omega arith; sized = none-left }
-all-messages (_and_ {x = p} {xs = ps} m ms) =
-    let r = all-messages ms in
+pub all-messages : (mode : Mode) {ps : List (List ℕ)} → Each (Message mode) ps → Messages mode ps
+all-messages mode none-left = record { values = []; means = no-pairs; raws = refl; few = omega arith; sized = none-left }
+all-messages mode (_and_ {x = p} {xs = ps} m ms) =
+    let r = all-messages mode ms in
     let k : Sized p = omega (arith, m .small) in
     record {
       values = m .value ∷ r .values;
       means = m .means paired r .means;
-      raws = ap₂ (λ (x : List ℕ) (l : List (List ℕ)). x ∷ l) (raw-is (m .means)) (r .raws);
+      raws = ap₂ (λ (x : List ℕ) (l : List (List ℕ)). x ∷ l) (raw-is mode (m .means)) (r .raws);
       few = omega (arith, m .few, r .few);
       sized = k and r .sized;
     }

@@ -9,10 +9,11 @@ use lib.ListN.{length, take}
 use lib.Seq.{sets}
 use lib.Dec.{eqb}
 use borrow.Author.Tests.{lt-ltb, eqb-true, eqb-false}
+use Rattle.basis.specs.declared.Mode.{Mode}
 use Rattle.basis.specs.declared.Edition.{Edition}
 use Rattle.basis.specs.declared.Edition.the-variants.{V12}
 use Rattle.basis.specs.declared.Dialect.{Dialect}
-use Rattle.basis.specs.Dialect.{spoken}
+use Rattle.basis.specs.Dialect.{modeOf, spoken}
 use Rattle.basis.specs.Cases.{either, clash}
 use Rattle.basis.specs.Bytes.{Bytes}
 use Rattle.basis.specs.declared.Told.{Told}
@@ -195,49 +196,49 @@ serve-other (sent ws ls) g = omega (arith, gated-bound g .0)
 serve-other (short needed) g = omega (arith, gated-bound g .1)
 
 -- of a serve that answers r where both bodies are taken
-module _ (ed : Edition) (body second : List ℕ) (b : Bytes body) (b2 : Bytes second) (r : Reply) where
+module _ (mode : Mode) (ed : Edition) (body second : List ℕ) (b : Bytes body) (b2 : Bytes second) (r : Reply) where
   second-refused : (a : Told)
-      → ((serveTold (serveOn (replied r) (acceptOf (spoken V12) second)) ≡ a) × Gated (a .number))
-      ↔ Refusal (spoken V12) second a
+      → ((serveTold (serveOn (replied r) (acceptOf (spoken mode V12) second)) ≡ a) × Gated (a .number))
+      ↔ Refusal (spoken mode V12) second a
   second-refused =
-      body-refused (spoken V12) second b2 (λ c. serveTold (serveOn (replied r) c)) (λ why. refl) (serve-other r)
+      body-refused (spoken mode V12) second b2 (λ c. serveTold (serveOn (replied r) c)) (λ why. refl) (serve-other r)
 
   abbrev servedOn : Checked → Told
-  servedOn c = serveTold (serveOn (serveOn (replied r) (acceptOf (spoken V12) second)) c)
+  servedOn c = serveTold (serveOn (serveOn (replied r) (acceptOf (spoken mode V12) second)) c)
 
-  refuses : (c : Checked) → acceptOf (spoken ed) body ≡ c → (a : Told) → servedOn c ≡ a → Gated (a .number)
-      → ServeRefuses ed body second a
-  refuses (checked.Refused why) e a h g = asking (refused-exactly (spoken ed) body a b .0 (why, e, h))
-  refuses checked.Fine e a h g = declining (taken-exactly (spoken ed) body b .0 e .1) (second-refused a .0 (h, g))
+  refuses : (c : Checked) → acceptOf (spoken mode ed) body ≡ c → (a : Told) → servedOn c ≡ a → Gated (a .number)
+      → ServeRefuses mode ed body second a
+  refuses (checked.Refused why) e a h g = asking (refused-exactly (spoken mode ed) body a b .0 (why, e, h))
+  refuses checked.Fine e a h g = declining (taken-exactly (spoken mode ed) body b .0 e .1) (second-refused a .0 (h, g))
 
-  refuses-only : (a : Told) → ServeRefuses ed body second a
-      → (servedOn (acceptOf (spoken ed) body) ≡ a) × Gated (a .number)
+  refuses-only : (a : Told) → ServeRefuses mode ed body second a
+      → (servedOn (acceptOf (spoken mode ed) body) ≡ a) × Gated (a .number)
   refuses-only a (asking h) =
-      let g = refused-exactly (spoken ed) body a b .1 h in (ap servedOn (g .1) ∙ g .2, refusal-gated h)
+      let g = refused-exactly (spoken mode ed) body a b .1 h in (ap servedOn (g .1) ∙ g .2, refusal-gated h)
   refuses-only a (declining w h) = let g = second-refused a .1 h in (ap servedOn (taken w) ∙ g .0, g .1)
 
 -- ---- the calls, on a lent state that is fine
 module _ (n : Node) (ss cs out : List ℕ) (fine : lentOf n ss cs ≡ lent.Fine) where
-  module _ (ed : Edition) (body : List ℕ) (x : Rpc) (w : Within (spoken ed) body x) where
+  module _ (ed : Edition) (body : List ℕ) (x : Rpc) (w : Within (spoken (modeOf (n .cache .flags)) ed) body x) where
     -- serve: the gateway and the RPCs that the two bodies mean fix what is answered and left
-    pub serve-fixed : (second : List ℕ) (y : Rpc) → Within (spoken V12) second y
+    pub serve-fixed : (second : List ℕ) (y : Rpc) → Within (spoken (modeOf (n .cache .flags)) V12) second y
         → (serveAnswer n ss cs ed body second out
         ≡ replied (serveOf (wantsOf x) (unwantedOf y) (length out) (gatewayIn n ss cs)))
         × (serveLeft n ss cs ed body second out
         ≡ sets out 0 (sentBytes (serveOf (wantsOf x) (unwantedOf y) (length out) (gatewayIn n ss cs))))
     serve-fixed second y v =
-        rw (← wanted-means (w .means), ← unwanted-means (v .means))
+        rw (← wanted-means (w .means), ← (unwanted-means (modeOf (n .cache .flags))) (v .means))
         (serve-says n ss cs out fine ed body (taken w) second (taken v))
 
     -- and so
-    pub serve-exactly : (second : List ℕ) (y : Rpc) → Bytes cs → Within (spoken V12) second y
+    pub serve-exactly : (second : List ℕ) (y : Rpc) → Bytes cs → Within (spoken (modeOf (n .cache .flags)) V12) second y
         → ServeExactly (having (gatewayIn n ss cs) (without (unwantedOf y) (once (wantsOf x)))) out
         (serveTold (serveAnswer n ss cs ed body second out)) (serveLeft n ss cs ed body second out)
     unfolding serveOf roomOf
     serve-exactly second y bytes v =
         let ms = having (gatewayIn n ss cs) (without (unwantedOf y) (once (wantsOf x))) in
-        let e : cachedOf (n .cache) cs (remaining body second) ≡ ms =
-        cached-gateway n ss cs (remaining body second)
+        let e : cachedOf (n .cache) cs (remaining (modeOf (n .cache .flags)) body second) ≡ ms =
+        cached-gateway n ss cs (remaining (modeOf (n .cache .flags)) body second)
         ∙ ap (having (gatewayIn n ss cs)) (remaining-means (w .means) (v .means)) in
         let r : Replies ms out = rw e at (serve-means n ss cs body second out fine bytes) in
         let f = serve-fixed second y v in
@@ -253,55 +254,55 @@ module _ (n : Node) (ss cs out : List ℕ) (fine : lentOf n ss cs ≡ lent.Fine)
     serve-alone bytes =
         subst (λ (l : List (List ℕ)). ServeExactly (having (gatewayIn n ss cs) l) out
         (serveTold (serveAnswer n ss cs ed body [] out)) (serveLeft n ss cs ed body [] out))
-        (without-none (once (wantsOf x))) (serve-exactly [] nothing bytes (nothing-means (spoken V12)))
+        (without-none (once (wantsOf x))) (serve-exactly [] nothing bytes (nothing-means (spoken (modeOf (n .cache .flags)) V12)))
 
   -- it tells 10, 1 to 7 or 11 exactly where one of the bodies is refused so, the one that asks before the second
   pub serve-refused-exactly : (ed : Edition) (body second : List ℕ) → Bytes body → Bytes second → (a : Told)
-      → ((serveTold (serveAnswer n ss cs ed body second out) ≡ a) × Gated (a .number)) ↔ ServeRefuses ed body second a
+      → ((serveTold (serveAnswer n ss cs ed body second out) ≡ a) × Gated (a .number)) ↔ ServeRefuses (modeOf (n .cache .flags)) ed body second a
   unfolding serveAnswer
   serve-refused-exactly ed body second b b2 a =
-      let r = replyFor (roomOf out) (cachedOf (n .cache) cs (remaining body second)) in
+      let r = replyFor (roomOf out) (cachedOf (n .cache) cs (remaining (modeOf (n .cache .flags)) body second)) in
       rw fine (
-        λ p. refuses ed body second b b2 r (acceptOf (spoken ed) body) refl a (p .0) (p .1),
-        refuses-only ed body second b b2 r a,
+        λ p. refuses (modeOf (n .cache .flags)) ed body second b b2 r (acceptOf (spoken (modeOf (n .cache .flags)) ed) body) refl a (p .0) (p .1),
+        refuses-only (modeOf (n .cache .flags)) ed body second b b2 r a,
       )
 
   -- and with no second body, where the body that asks is
   pub serve-alone-refused : (ed : Edition) (body : List ℕ) → Bytes body → (a : Told)
-      → ((serveTold (serveAnswer n ss cs ed body [] out) ≡ a) × Gated (a .number)) ↔ Refusal (spoken ed) body a
+      → ((serveTold (serveAnswer n ss cs ed body [] out) ≡ a) × Gated (a .number)) ↔ Refusal (spoken (modeOf (n .cache .flags)) ed) body a
   serve-alone-refused ed body b a =
       let e = serve-refused-exactly ed body [] b (λ i. omega arith) a in (λ p. first (e .0 p), λ h. e .1 (asking h))
     where
-      first : ServeRefuses ed body [] a → Refusal (spoken ed) body a
+      first : ServeRefuses (modeOf (n .cache .flags)) ed body [] a → Refusal (spoken (modeOf (n .cache .flags)) ed) body a
       first (asking h) = h
-      first (declining w h) = absurd (refusal-within h (nothing-means (spoken V12)))
+      first (declining w h) = absurd (refusal-within h (nothing-means (spoken (modeOf (n .cache .flags)) V12)))
 
   -- ask: the same
-  pub ask-fixed : (ed : Edition) (body : List ℕ) (x : Rpc) → Within (spoken ed) body x
+  pub ask-fixed : (ed : Edition) (body : List ℕ) (x : Rpc) → Within (spoken (modeOf (n .cache .flags)) ed) body x
       → (askAnswer n ss cs ed body out ≡ asked (answer (rpcBytes (askOf (offersOf x) (gatewayIn n ss cs))) out))
       × (askLeft n ss cs ed body out ≡ written (rpcBytes (askOf (offersOf x) (gatewayIn n ss cs))) out)
   ask-fixed ed body x w = rw (← offered-means (w .means)) (ask-says n ss cs out fine ed body (taken w))
 
-  pub ask-exactly : (ed : Edition) (body : List ℕ) (x : Rpc) → Within (spoken ed) body x
+  pub ask-exactly : (ed : Edition) (body : List ℕ) (x : Rpc) → Within (spoken (modeOf (n .cache .flags)) ed) body x
       → NamesExactly (lacking (gatewayIn n ss cs) (once (offersOf x)))
       (request (lacking (gatewayIn n ss cs) (once (offersOf x)))) out (askTold (askAnswer n ss cs ed body out))
       (askLeft n ss cs ed body out)
   unfolding askOf askBytes
   ask-exactly ed body x w =
       let ids = lacking (gatewayIn n ss cs) (once (offersOf x)) in
-      let e : unseenOf n ss (offered body) ≡ ids =
-      unseen-gateway n ss cs (offered body) ∙ ap (lacking (gatewayIn n ss cs)) (offered-once (w .means)) in
+      let e : unseenOf n ss (offered (modeOf (n .cache .flags)) body) ≡ ids =
+      unseen-gateway n ss cs (offered (modeOf (n .cache .flags)) body) ∙ ap (lacking (gatewayIn n ss cs)) (offered-once (w .means)) in
       let f = ask-fixed ed body x w in
       rw (f .0, f .1)
       (names-exactly ids (request ids) out (λ a. askTold (asked a)) (λ k. refl) (λ k. refl)
       (λ there. rw e at (request-within n ss w (λ z. there (sym e ∙ z)))))
 
   pub ask-refused-exactly : (ed : Edition) (body : List ℕ) → Bytes body → (a : Told)
-      → ((askTold (askAnswer n ss cs ed body out) ≡ a) × Gated (a .number)) ↔ Refusal (spoken ed) body a
+      → ((askTold (askAnswer n ss cs ed body out) ≡ a) × Gated (a .number)) ↔ Refusal (spoken (modeOf (n .cache .flags)) ed) body a
   unfolding askAnswer
   ask-refused-exactly ed body b a =
       let w = answer (askBytes n ss body) out in
-      rw fine (body-refused (spoken ed) body b (λ c. askTold (askOn (asked w) c)) (λ why. refl) (ask-other w) a)
+      rw fine (body-refused (spoken (modeOf (n .cache .flags)) ed) body b (λ c. askTold (askOn (asked w) c)) (λ why. refl) (ask-other w) a)
 
   advertise-long : (topic : List ℕ) (windows : ℕ) → 1024 < length topic
       → (advertiseTold (advertiseAnswer n ss cs topic windows out) ≡ told topic-too-long (length topic ∷ []))

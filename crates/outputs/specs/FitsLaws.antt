@@ -10,6 +10,8 @@ use native.Mathlib.Nat.{zero-add}
 use lib.ListN.{length}
 use lib.Dec.{ltb}
 use borrow.Author.Tests.{ltb-true, ltb-false, le-ltb, ne-eqb}
+use Rattle.basis.specs.declared.Mode.{Mode}
+use Rattle.basis.specs.Dialect.{modeOf}
 use Rattle.basis.specs.Cases.{either, clash}
 use Rattle.basis.specs.Bytes.{Bytes}
 use Rattle.peer_id.specs.MultihashLaws.{peer-size}
@@ -43,28 +45,28 @@ given-bytes : (p : List ℕ) (q : Place) → givenAt p q ≡ bytesAt p 0 q
 given-bytes p place.Absent = refl
 given-bytes p (place.Present a e) = sym (ap₂ (λ (x y : ℕ). some (between p x y)) (zero-add a) (zero-add e))
 
-pub record FieldsGiven (p : List ℕ) (m : RawMessage) : Type 0 where
-  pub from : givenAt p (slotsOf kind.RawMessage p .first) ≡ m .from
-  pub seqno : givenAt p (slotsOf kind.RawMessage p .third) ≡ m .seqno
-  pub signature : givenAt p (slotsOf kind.RawMessage p .fourth) ≡ m .signature
-  pub key : givenAt p (slotsOf kind.RawMessage p .fifth) ≡ m .key
+pub record FieldsGiven (mode : Mode) (p : List ℕ) (m : RawMessage) : Type 0 where
+  pub from : givenAt p (slotsOf mode kind.RawMessage p .first) ≡ m .from
+  pub seqno : givenAt p (slotsOf mode kind.RawMessage p .third) ≡ m .seqno
+  pub signature : givenAt p (slotsOf mode kind.RawMessage p .fourth) ≡ m .signature
+  pub key : givenAt p (slotsOf mode kind.RawMessage p .fifth) ≡ m .key
 
-pub fields-given : {p : List ℕ} {m : RawMessage} → IsMessage p m → FieldsGiven p m
-fields-given (is-message {s = p} {es = es} g u) =
-    let w = body-walks p es g in
-    let s = slotsOf kind.RawMessage p in
+pub fields-given : (mode : Mode) {p : List ℕ} {m : RawMessage} → IsMessage mode p m → FieldsGiven mode p m
+fields-given mode (is-message {s = p} {es = es} g u) =
+    let w = body-walks mode p es g in
+    let s = slotsOf mode kind.RawMessage p in
     record {
       from = given-bytes p (s .first)
-          ∙ slot-value p 0 p kind.RawMessage (λ t. t .first) 1 (w .fields) es (whole-part p) message-from (w .walked)
+          ∙ slot-value mode p 0 p kind.RawMessage (λ t. t .first) 1 (w .fields) es (whole-part p) message-from (w .walked)
           (w .entries) refl;
       seqno = given-bytes p (s .third)
-          ∙ slot-value p 0 p kind.RawMessage (λ t. t .third) 3 (w .fields) es (whole-part p) message-seqno (w .walked)
+          ∙ slot-value mode p 0 p kind.RawMessage (λ t. t .third) 3 (w .fields) es (whole-part p) message-seqno (w .walked)
           (w .entries) refl;
       signature = given-bytes p (s .fourth)
-          ∙ slot-value p 0 p kind.RawMessage (λ t. t .fourth) 5 (w .fields) es (whole-part p) message-signature
+          ∙ slot-value mode p 0 p kind.RawMessage (λ t. t .fourth) 5 (w .fields) es (whole-part p) message-signature
           (w .walked) (w .entries) refl;
       key = given-bytes p (s .fifth)
-          ∙ slot-value p 0 p kind.RawMessage (λ t. t .fifth) 6 (w .fields) es (whole-part p) message-key (w .walked)
+          ∙ slot-value mode p 0 p kind.RawMessage (λ t. t .fifth) 6 (w .fields) es (whole-part p) message-key (w .walked)
           (w .entries) refl;
     }
 
@@ -107,39 +109,39 @@ not-given : (p : List ℕ) (q : Place) → givenAt p q ≡ none → q ≡ place.
 not-given p place.Absent h = refl
 not-given p (place.Present a e) h = clash (cc)
 
-module _ (flags : ℕ) {p : List ℕ} {m : RawMessage} (i : IsMessage p m) (bp : Bytes p) (word : Bool) where
+module _ (flags : ℕ) {p : List ℕ} {m : RawMessage} (i : IsMessage (modeOf flags) p m) (bp : Bytes p) (word : Bool) where
   -- what stands behind it, by its places and by its fields
   backed-fields : {s : List ℕ} → Backed flags p word s → BackedMessage flags m word s
   backed-fields {s} (fit.signed y k w) =
-      let g = fields-given i in
-      let z = slots-inside kind.RawMessage p .fourth (y .start) (y .next) (y .there) in
+      let g = fields-given (modeOf flags) i in
+      let z = slots-inside (modeOf flags) kind.RawMessage p .fourth (y .start) (y .next) (y .there) in
       signed {signature = between p (y .start) (y .next)} (sym (g .signature) ∙ ap (givenAt p) (y .there))
       (between-length p (y .start) (y .next) (z .1) ∙ y .size) (subst (KeyOf s) (g .key) k) w
   backed-fields (fit.unsigned t f4 f5) =
-      let g = fields-given i in
+      let g = fields-given (modeOf flags) i in
       unsigned t (sym (g .signature) ∙ ap (givenAt p) f4) (sym (g .key) ∙ ap (givenAt p) f5)
 
   backed-places : {s : List ℕ} → BackedMessage flags m word s → Backed flags p word s
   backed-places {s} (signed {signature} there whole k given) =
-      let g = fields-given i in
-      let f = slots-inside kind.RawMessage p .fourth in
-      let w = field-at p (slotsOf kind.RawMessage p .fourth) signature f (g .signature ∙ there) in
+      let g = fields-given (modeOf flags) i in
+      let f = slots-inside (modeOf flags) kind.RawMessage p .fourth in
+      let w = field-at p (slotsOf (modeOf flags) kind.RawMessage p .fourth) signature f (g .signature ∙ there) in
       fit.signed (record { start = w .start; next = w .next; there = w .there; size = w .size ∙ whole })
       (subst (KeyOf s) (sym (g .key)) k) given
   backed-places (unsigned t a b) =
-      let g = fields-given i in
-      fit.unsigned t (not-given p (slotsOf kind.RawMessage p .fourth) (g .signature ∙ a))
-      (not-given p (slotsOf kind.RawMessage p .fifth) (g .key ∙ b))
+      let g = fields-given (modeOf flags) i in
+      fit.unsigned t (not-given p (slotsOf (modeOf flags) kind.RawMessage p .fourth) (g .signature ∙ a))
+      (not-given p (slotsOf (modeOf flags) kind.RawMessage p .fifth) (g .key ∙ b))
 
   by-fields : (a e b f : ℕ) → admissionOf flags p word ≡ admission.Fit a e b f → FitMessage flags m word
   by-fields a e b f h =
       let x = fit-exactly flags p word a e b f bp .0 h in
-      let g = fields-given i in
-      let t = parts-there p a e b f (x .parts) in
-      let n = id-fits p a e b f (x .parts) in
-      let o = id-some p a e b f (x .parts) in
+      let g = fields-given (modeOf flags) i in
+      let t = parts-there (modeOf flags) p a e b f (x .parts) in
+      let n = id-fits (modeOf flags) p a e b f (x .parts) in
+      let o = id-some (modeOf flags) p a e b f (x .parts) in
       let l = between-length p b f (n .seqno .1) in
-      let k = topics-mean i .0 in
+      let k = topics-mean (modeOf flags) i .0 in
       record {
         sender = between p a e;
         from = sym (g .from) ∙ ap (givenAt p) (t .0);
@@ -153,21 +155,21 @@ module _ (flags : ℕ) {p : List ℕ} {m : RawMessage} (i : IsMessage p m) (bp :
         backed = backed-fields (x .backed);
         topic = rw k (x .limits .some);
         few = rw k (x .limits .few);
-        short = rw k (all-short (topicsOf p) (x .limits .short));
-        small = rw (raw-is i) (x .limits .small);
+        short = rw k (all-short (topicsOf (modeOf flags) p) (x .limits .short));
+        small = rw (raw-is (modeOf flags) i) (x .limits .small);
       }
 
   by-places : FitMessage flags m word → (a : ℕ) × (e : ℕ) × (b : ℕ) × (f : ℕ)
       × (admissionOf flags p word ≡ admission.Fit a e b f)
   unfolding idParts
   by-places x =
-      let g = fields-given i in
-      let s = slots-inside kind.RawMessage p in
-      let u = field-at p (slotsOf kind.RawMessage p .first) (x .sender) (s .first) (g .from ∙ x .from) in
-      let v = field-at p (slotsOf kind.RawMessage p .third) (x .number) (s .third) (g .seqno ∙ x .seqno) in
+      let g = fields-given (modeOf flags) i in
+      let s = slots-inside (modeOf flags) kind.RawMessage p in
+      let u = field-at p (slotsOf (modeOf flags) kind.RawMessage p .first) (x .sender) (s .first) (g .from ∙ x .from) in
+      let v = field-at p (slotsOf (modeOf flags) kind.RawMessage p .third) (x .number) (s .third) (g .seqno ∙ x .seqno) in
       let z = peer-size (x .peer) in
-      let k = topics-mean i .0 in
-      let parts : idParts p ≡ id.Parts (u .start) (u .next) (v .start) (v .next) =
+      let k = topics-mean (modeOf flags) i .0 in
+      let parts : idParts (modeOf flags) p ≡ id.Parts (u .start) (u .next) (v .start) (v .next) =
       ap₂ onFrom (u .there) (v .there)
       ∙ simp (
         ne-eqb (u .next - u .start) 0 (λ q. absurd (omega (arith, u .size, z .0))),
@@ -190,7 +192,7 @@ module _ (flags : ℕ) {p : List ℕ} {m : RawMessage} (i : IsMessage p m) (bp :
                 some = rw k at (x .topic);
                 few = rw k at (x .few);
                 short = none-long (rw k at (x .short));
-                small = rw (raw-is i) at (x .small);
+                small = rw (raw-is (modeOf flags) i) at (x .small);
               };
             }),
       )

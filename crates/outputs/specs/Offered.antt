@@ -7,6 +7,7 @@ use mathlib.Core.List.{List, [], _∷_, _++_, append-assoc, append-nil}
 use mathlib.Core.Option.{Option, none, some}
 use native.Mathlib.Omega.{arith}
 use lib.ListN.{length, length-append}
+use Rattle.basis.specs.declared.Mode.{Mode}
 use Rattle.basis.specs.declared.Edition.the-variants.{V12}
 use Rattle.basis.specs.declared.Dialect.{Dialect}
 use Rattle.basis.specs.Dialect.{spoken}
@@ -31,21 +32,21 @@ values-list n s (f ∷ fs) =
     let ds = bytesIn n (entriesOf s fs) in
     ap (λ (l : List (List ℕ)). cond (isBytes n f) (valueIn s f ∷ l) l) (values-list n s fs) ∙ sym (put-bytes s n f ds)
 
-pub values-body : (n : ℕ) (s : List ℕ) (es : List Entry) → Body s es → valuesAlong n s (fieldsOf s) ≡ bytesIn n es
-values-body n s es g =
-    let w = body-walks s es g in
+pub values-body : (mode : Mode) (n : ℕ) (s : List ℕ) (es : List Entry) → Body mode s es → valuesAlong n s (fieldsOf mode s) ≡ bytesIn n es
+values-body mode n s es g =
+    let w = body-walks mode s es g in
     ap (valuesAlong n s) (w .walked) ∙ values-list n s (w .fields) ∙ ap (bytesIn n) (w .entries)
 
 -- ---- a path, one field further
-path-body : (n : ℕ) (ns s : List ℕ) (es : List Entry) → Body s es
-    → atPath (n ∷ ns) s ≡ inEach (atPath ns) (bytesIn n es)
+path-body : (mode : Mode) (n : ℕ) (ns s : List ℕ) (es : List Entry) → Body mode s es
+    → atPath mode (n ∷ ns) s ≡ inEach (atPath mode ns) (bytesIn n es)
 unfolding atPath
-path-body n ns s es g = ap (inEach (atPath ns)) (values-body n s es g)
+path-body mode n ns s es g = ap (inEach (atPath mode ns)) (values-body mode n s es g)
 
-each-itself : (ds : List (List ℕ)) → inEach (atPath []) ds ≡ ds
+each-itself : (mode : Mode) (ds : List (List ℕ)) → inEach (atPath mode []) ds ≡ ds
 unfolding atPath
-each-itself [] = refl
-each-itself (d ∷ ds) = ap (λ (l : List (List ℕ)). d ∷ l) (each-itself ds)
+each-itself mode [] = refl
+each-itself mode (d ∷ ds) = ap (λ (l : List (List ℕ)). d ∷ l) (each-itself mode ds)
 
 -- ---- submessages, each with ids of its own: `all` are those of several, one after the other
 module _ {X : Type 0} (all : List X → List (List ℕ)) (own : X → List (List ℕ)) (empty : [] ≡ all [])
@@ -68,32 +69,32 @@ module _ {X : Type 0} (all : List X → List (List ℕ)) (own : X → List (List
   ids-few (x ∷ xs) = omega (arith, length-append (own x) (all xs), ap length (more x xs), ids-few xs)
 
 -- ---- one IHAVE, one IWANT, one IDONTWANT, one control
-ihave-ids : (d : List ℕ) (h : ControlIHave) → IsIHave d h → atPath (2 ∷ []) d ≡ h .«message_ids»
-ihave-ids _ _ (is-ihave {s = s} {es = es} g u) = path-body 2 [] s es g ∙ each-itself (bytesIn 2 es)
+ihave-ids : (mode : Mode) (d : List ℕ) (h : ControlIHave) → IsIHave mode d h → atPath mode (2 ∷ []) d ≡ h .«message_ids»
+ihave-ids mode _ _ (is-ihave {s = s} {es = es} g u) = path-body mode 2 [] s es g ∙ each-itself mode (bytesIn 2 es)
 
-iwant-ids : (d : List ℕ) (w : ControlIWant) → IsIWant d w → atPath (1 ∷ []) d ≡ w .«message_ids»
-iwant-ids _ _ (is-iwant {s = s} {es = es} g) = path-body 1 [] s es g ∙ each-itself (bytesIn 1 es)
+iwant-ids : (mode : Mode) (d : List ℕ) (w : ControlIWant) → IsIWant mode d w → atPath mode (1 ∷ []) d ≡ w .«message_ids»
+iwant-ids mode _ _ (is-iwant {s = s} {es = es} g) = path-body mode 1 [] s es g ∙ each-itself mode (bytesIn 1 es)
 
-idontwant-ids : (d : List ℕ) (w : ControlIDontWant) → IsIDontWant d w → atPath (1 ∷ []) d ≡ w .«message_ids»
-idontwant-ids _ _ (is-idontwant {s = s} {es = es} g) = path-body 1 [] s es g ∙ each-itself (bytesIn 1 es)
+idontwant-ids : (mode : Mode) (d : List ℕ) (w : ControlIDontWant) → IsIDontWant mode d w → atPath mode (1 ∷ []) d ≡ w .«message_ids»
+idontwant-ids mode _ _ (is-idontwant {s = s} {es = es} g) = path-body mode 1 [] s es g ∙ each-itself mode (bytesIn 1 es)
 
 control-offers : {d : Dialect} (s : List ℕ) (c : ControlMessage) → IsControl d s c
-    → atPath (1 ∷ 2 ∷ []) s ≡ ihaveIds (c .ihave)
+    → atPath (d .mode) (1 ∷ 2 ∷ []) s ≡ ihaveIds (c .ihave)
 control-offers _ _ (is-control {s = s} {es = es} g h1 h2 h3 h4 h5) =
-    path-body 1 (2 ∷ []) s es g ∙ in-pairs ihaveIds (λ h. h .«message_ids») refl
-    (λ h hs. refl) (atPath (2 ∷ [])) ihave-ids h1
+    path-body (d .mode) 1 (2 ∷ []) s es g ∙ in-pairs ihaveIds (λ h. h .«message_ids») refl
+    (λ h hs. refl) (atPath (d .mode) (2 ∷ [])) (ihave-ids (d .mode)) h1
 
 control-wants : {d : Dialect} (s : List ℕ) (c : ControlMessage) → IsControl d s c
-    → atPath (2 ∷ 1 ∷ []) s ≡ iwantIds (c .iwant)
+    → atPath (d .mode) (2 ∷ 1 ∷ []) s ≡ iwantIds (c .iwant)
 control-wants _ _ (is-control {s = s} {es = es} g h1 h2 h3 h4 h5) =
-    path-body 2 (1 ∷ []) s es g ∙ in-pairs iwantIds (λ w. w .«message_ids») refl
-    (λ w ws. refl) (atPath (1 ∷ [])) iwant-ids h2
+    path-body (d .mode) 2 (1 ∷ []) s es g ∙ in-pairs iwantIds (λ w. w .«message_ids») refl
+    (λ w ws. refl) (atPath (d .mode) (1 ∷ [])) (iwant-ids (d .mode)) h2
 
-control-declines : (s : List ℕ) (c : ControlMessage) → IsControl (spoken V12) s c
-    → atPath (5 ∷ 1 ∷ []) s ≡ idontwantIds (c .idontwant)
-control-declines _ _ (is-control {s = s} {es = es} g h1 h2 h3 h4 h5) =
-    path-body 5 (1 ∷ []) s es g ∙ in-pairs idontwantIds (λ w. w .«message_ids») refl
-    (λ w ws. refl) (atPath (1 ∷ [])) idontwant-ids h5
+control-declines : (mode : Mode) (s : List ℕ) (c : ControlMessage) → IsControl (spoken mode V12) s c
+    → atPath mode (5 ∷ 1 ∷ []) s ≡ idontwantIds (c .idontwant)
+control-declines mode _ _ (is-control {s = s} {es = es} g h1 h2 h3 h4 h5) =
+    path-body mode 5 (1 ∷ []) s es g ∙ in-pairs idontwantIds (λ w. w .«message_ids») refl
+    (λ w ws. refl) (atPath mode (1 ∷ [])) (idontwant-ids mode) h5
 
 -- ---- controls are joined, and so are the ids that they name
 offers-join : (c : ControlMessage) (o : Option ControlMessage)
@@ -112,39 +113,39 @@ declines-join c (some d) =
     all-append idontwantIds (λ w. w .«message_ids») refl (λ w ws. refl) (c .idontwant) (d .idontwant)
 
 -- ---- the ids in the IHAVEs of a body, in its IWANTs, and in the IDONTWANTs of one that is read in 1.2
-pub offered-means : {d : Dialect} {s : List ℕ} {x : Rpc} → IsRpc d s x → atPath (3 ∷ 1 ∷ 2 ∷ []) s ≡ offersOf x
+pub offered-means : {d : Dialect} {s : List ℕ} {x : Rpc} → IsRpc d s x → atPath (d .mode) (3 ∷ 1 ∷ 2 ∷ []) s ≡ offersOf x
 offered-means (is-rpc {s = s} {es = es} g h1 h2 h3) =
-    path-body 3 (1 ∷ 2 ∷ []) s es g
+    path-body (d .mode) 3 (1 ∷ 2 ∷ []) s es g
     ∙ in-pairs (λ cs. offersIn (joined cs)) (λ c. ihaveIds (c .ihave)) refl (λ c cs. offers-join c (joined cs))
-    (atPath (1 ∷ 2 ∷ [])) control-offers h3
+    (atPath (d .mode) (1 ∷ 2 ∷ [])) control-offers h3
 
-pub wanted-means : {d : Dialect} {s : List ℕ} {x : Rpc} → IsRpc d s x → atPath (3 ∷ 2 ∷ 1 ∷ []) s ≡ wantsOf x
+pub wanted-means : {d : Dialect} {s : List ℕ} {x : Rpc} → IsRpc d s x → atPath (d .mode) (3 ∷ 2 ∷ 1 ∷ []) s ≡ wantsOf x
 wanted-means (is-rpc {s = s} {es = es} g h1 h2 h3) =
-    path-body 3 (2 ∷ 1 ∷ []) s es g
+    path-body (d .mode) 3 (2 ∷ 1 ∷ []) s es g
     ∙ in-pairs (λ cs. wantsIn (joined cs)) (λ c. iwantIds (c .iwant)) refl (λ c cs. wants-join c (joined cs))
-    (atPath (2 ∷ 1 ∷ [])) control-wants h3
+    (atPath (d .mode) (2 ∷ 1 ∷ [])) control-wants h3
 
-pub unwanted-means : {s : List ℕ} {x : Rpc} → IsRpc (spoken V12) s x → unwantedIn s ≡ unwantedOf x
+pub unwanted-means : (mode : Mode) {s : List ℕ} {x : Rpc} → IsRpc (spoken mode V12) s x → unwantedIn mode s ≡ unwantedOf x
 unfolding unwantedIn
-unwanted-means (is-rpc {s = s} {es = es} g h1 h2 h3) =
-    path-body 3 (5 ∷ 1 ∷ []) s es g
+unwanted-means mode (is-rpc {s = s} {es = es} g h1 h2 h3) =
+    path-body mode 3 (5 ∷ 1 ∷ []) s es g
     ∙ in-pairs (λ cs. declinedIn (joined cs)) (λ c. idontwantIds (c .idontwant)) refl
-    (λ c cs. declines-join c (joined cs)) (atPath (5 ∷ 1 ∷ [])) control-declines h3
+    (λ c cs. declines-join c (joined cs)) (atPath mode (5 ∷ 1 ∷ [])) (control-declines mode) h3
 
 -- each at its first mention
-pub offered-once : {d : Dialect} {s : List ℕ} {x : Rpc} → IsRpc d s x → offered s ≡ once (offersOf x)
+pub offered-once : {d : Dialect} {s : List ℕ} {x : Rpc} → IsRpc d s x → offered (d .mode) s ≡ once (offersOf x)
 unfolding offered
 offered-once h = ap once (offered-means h)
 
-pub wanted-once : {d : Dialect} {s : List ℕ} {x : Rpc} → IsRpc d s x → wanted s ≡ once (wantsOf x)
+pub wanted-once : {d : Dialect} {s : List ℕ} {x : Rpc} → IsRpc d s x → wanted (d .mode) s ≡ once (wantsOf x)
 unfolding wanted
 wanted-once h = ap once (wanted-means h)
 
 -- those that the one asks for and the other does not decline
-pub remaining-means : {d : Dialect} {s t : List ℕ} {x y : Rpc} → IsRpc d s x → IsRpc (spoken V12) t y
-    → remaining s t ≡ without (unwantedOf y) (once (wantsOf x))
+pub remaining-means : {d : Dialect} {s t : List ℕ} {x y : Rpc} → IsRpc d s x → IsRpc (spoken (d .mode) V12) t y
+    → remaining (d .mode) s t ≡ without (unwantedOf y) (once (wantsOf x))
 unfolding remaining
-remaining-means g h = ap₂ without (unwanted-means h) (wanted-once g)
+remaining-means g h = ap₂ without (unwanted-means (d .mode) h) (wanted-once g)
 
 -- ---- fewer ids than records: ids that are offered stand in an IHAVE, which is one record more
 offers-in : (o : Option ControlMessage) → 1 ≤ length (offersIn o) → 1 + length (offersIn o) ≤ someRecords o

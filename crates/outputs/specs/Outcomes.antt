@@ -6,6 +6,7 @@ use mathlib.Core.List.{List, [], _∷_, map}
 use mathlib.Core.Option.{none}
 use mathlib.Core.Logic.{_↔_, _⊎_}
 use lib.ListN.{length, take, drop}
+use Rattle.basis.specs.declared.Mode.{Mode}
 use Rattle.basis.specs.declared.Edition.{Edition}
 use Rattle.basis.specs.declared.Edition.the-variants.{V12}
 use Rattle.basis.specs.declared.Dialect.{Dialect}
@@ -88,6 +89,6 @@ pub record ServeExactly (ms : List (List ℕ)) (out : List ℕ) (t : Told) (left
       ⊎ ((needed : ℕ) × (t ≡ told short-room (needed ∷ [])))
 
 -- 10, 1 to 7 or 11 of the body that asks, in the call's edition; or, where that is taken, of the second body, in 1.2
-pub data ServeRefuses (ed : Edition) (body second : List ℕ) (t : Told) : Type 0 where
-  asking : Refusal (spoken ed) body t → ServeRefuses ed body second t
-  declining : {x : Rpc} → Within (spoken ed) body x → Refusal (spoken V12) second t → ServeRefuses ed body second t
+pub data ServeRefuses (mode : Mode) (ed : Edition) (body second : List ℕ) (t : Told) : Type 0 where
+  asking : Refusal (spoken mode ed) body t → ServeRefuses ed body second t
+  declining : {x : Rpc} → Within (spoken mode ed) body x → Refusal (spoken mode V12) second t → ServeRefuses ed body second t

@@ -11,10 +11,11 @@ use lib.ListN.{length, take, length-map}
 use lib.Seq.{length-take-le}
 use lib.Dec.{ltb, eqb}
 use borrow.Author.Tests.{ltb-true, eqb-true, eqb-false}
+use Rattle.basis.specs.declared.Mode.{Mode}
 use Rattle.basis.specs.declared.Edition.{Edition}
 use Rattle.basis.specs.declared.Edition.the-variants.{V12}
 use Rattle.basis.specs.declared.Dialect.{Dialect}
-use Rattle.basis.specs.Dialect.{spoken}
+use Rattle.basis.specs.Dialect.{modeOf, spoken}
 use Rattle.basis.specs.Cases.{either, clash}
 use Rattle.basis.specs.Bytes.{Bytes}
 use Rattle.rows.specs.declared.Ring.{Ring}
@@ -71,10 +72,10 @@ rows-each f ring held (i ∷ is) h =
     (λ t. simp t r)
 
 -- ---- the ids that remain are each there once
-remaining-distinct : (body second : List ℕ) → distinct (remaining body second) ≡ true
+remaining-distinct : (mode : Mode) (body second : List ℕ) → distinct (remaining mode body second) ≡ true
 unfolding remaining wanted
-remaining-distinct body second =
-    without-distinct (unwantedIn second) (wanted body) (once-distinct (atPath (3 ∷ 2 ∷ 1 ∷ []) body))
+remaining-distinct mode body second =
+    without-distinct (unwantedIn mode second) (wanted mode body) (once-distinct (atPath mode (3 ∷ 2 ∷ 1 ∷ []) body))
 
 module _ (c : MessageCache) (st : List ℕ) (t : Tests c st) (is : List (List ℕ)) where
   held-count : length (idsIn messageIdSize (ringOf c) (c .«id_len») (c .ids)) ≡ c .count
@@ -91,7 +92,7 @@ module _ (c : MessageCache) (st : List ℕ) (t : Tests c st) (is : List (List �
       let n = held-count in
       omega (arith, t .within, t .few)
 
-  pub cached-messages : Bytes st → Each Message (cachedOf c st is)
+  pub cached-messages : Bytes st → Each (Message (modeOf (c .flags))) (cachedOf c st is)
   unfolding cachedOf
   cached-messages b =
       let held = idsIn messageIdSize (ringOf c) (c .«id_len») (c .ids) in
@@ -119,13 +120,13 @@ published-bytes : (vs : List RawMessage)
 unfolding encodeRpc
 published-bytes vs = append-nil (repeated (λ m. bytesField 2 (m .raw)) vs) ∙ raw-fields vs
 
-pub replies : (ms : List (List ℕ)) (out : List ℕ) → Each Message ms → length ms ≤ 64 → Replies ms out
+pub replies : (mode : Mode) (ms : List (List ℕ)) (out : List ℕ) → Each (Message mode) ms → length ms ≤ 64 → Replies ms out
 unfolding replyBytes servedOf recordsIn
-replies ms out h n =
+replies mode ms out h n =
     let k = servedOf ms out in
     let l = served-le ms out in
     let t = length-take-le k ms l in
-    let r = all-messages (each-take k h) in
+    let r = all-messages mode (each-take k h) in
     let w : (d : Dialect) → IsRpc d (repeated (bytesField 2) (take k ms)) (published (r .values)) =
     λ d. messages-mean d (r .sized) (r .means) in
     let e = ap (repeated (bytesField 2)) (r .raws) in
@@ -146,16 +147,16 @@ replies ms out h n =
 
 module _ (n : Node) (ss cs body second out : List ℕ) (fine : lentOf n ss cs ≡ lent.Fine) (bytes : Bytes cs) where
   abbrev ms : List (List ℕ)
-  ms = cachedOf (n .cache) cs (remaining body second)
+  ms = cachedOf (n .cache) cs (remaining (modeOf (n .cache .flags)) body second)
 
-  pub serve-means : Replies (cachedOf (n .cache) cs (remaining body second)) out
+  pub serve-means : Replies (cachedOf (n .cache) cs (remaining (modeOf (n .cache .flags)) body second)) out
   serve-means =
       let t = fine-tests (n .cache) cs (node-tests n ss cs fine .messages) in
-      replies ms out (cached-messages (n .cache) cs t (remaining body second) bytes)
-      (cached-few (n .cache) cs t (remaining body second) (remaining-distinct body second))
+      replies (modeOf (n .cache .flags)) ms out (cached-messages (n .cache) cs t (remaining (modeOf (n .cache .flags)) body second) bytes)
+      (cached-few (n .cache) cs t (remaining (modeOf (n .cache .flags)) body second) (remaining-distinct (modeOf (n .cache .flags)) body second))
 
-  pub serve-stays : (d : Dialect) → canonBody d (replyBytes (cachedOf (n .cache) cs (remaining body second)) out)
-      ≡ replyBytes (cachedOf (n .cache) cs (remaining body second)) out
+  pub serve-stays : (d : Dialect) → canonBody d (replyBytes (cachedOf (n .cache) cs (remaining (modeOf (n .cache .flags)) body second)) out)
+      ≡ replyBytes (cachedOf (n .cache) cs (remaining (modeOf (n .cache .flags)) body second)) out
   serve-stays = serve-means .stays
 
 -- ---- what is answered
@@ -215,11 +216,11 @@ serve-room (m ∷ ms) out k h =
 
 -- ---- of a call: it counts the messages that are cached, named and not declined, those written and those left
 pub serve-tells : (n : Node) (ss cs : List ℕ) (ed : Edition) (body second out : List ℕ) (k w l : ℕ)
-    → lentOf n ss cs ≡ lent.Fine → acceptOf (spoken ed) body ≡ checked.Fine
-    → acceptOf (spoken V12) second ≡ checked.Fine
+    → lentOf n ss cs ≡ lent.Fine → acceptOf (spoken (modeOf (n .cache .flags)) ed) body ≡ checked.Fine
+    → acceptOf (spoken (modeOf (n .cache .flags)) V12) second ≡ checked.Fine
     → serveAnswer n ss cs ed body second out ≡ serve.Reply k w l
-    → Counts (having (gatewayIn n ss cs) (remaining body second)) out k w l
+    → Counts (having (gatewayIn n ss cs) (remaining (modeOf (n .cache .flags)) body second)) out k w l
 unfolding serveOf remaining wanted roomOf
 serve-tells n ss cs ed body second out k w l fine ok too h =
-    serve-counts (having (gatewayIn n ss cs) (remaining body second)) out k w l
+    serve-counts (having (gatewayIn n ss cs) (remaining (modeOf (n .cache .flags)) body second)) out k w l
     (sym (serve-says n ss cs out fine ed body ok second too .0) ∙ h)

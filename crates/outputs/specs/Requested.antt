@@ -6,6 +6,7 @@ use mathlib.Core.List.{List, [], _∷_, _++_, append-nil}
 use mathlib.Core.Option.{Option, none, some}
 use native.Mathlib.Omega.{arith}
 use lib.ListN.{length, length-append}
+use Rattle.basis.specs.Dialect.{modeOf}
 use Rattle.basis.specs.declared.Dialect.{Dialect}
 use Rattle.basis.specs.Cases.{either}
 use Rattle.basis.specs.Bytes.{Bytes}
@@ -55,10 +56,10 @@ unseen-less flags seen (i ∷ is) f =
     let r = unseen-less flags seen is f in
     either (knownIn flags seen i) (λ t. simp t (omega arith)) (λ t. simp t (omega arith))
 
-asked-less : (n : Node) (ss body : List ℕ) → Less (unseenOf n ss (offered body)) (atPath (3 ∷ 1 ∷ 2 ∷ []) body)
+asked-less : (n : Node) (ss body : List ℕ) → Less (unseenOf n ss (offered (modeOf (n .cache .flags)) body)) (atPath (modeOf (n .cache .flags)) (3 ∷ 1 ∷ 2 ∷ []) body)
 unfolding unseenOf offered
 asked-less n ss body f =
-    let ids = atPath (3 ∷ 1 ∷ 2 ∷ []) body in
+    let ids = atPath (modeOf (n .cache .flags)) (3 ∷ 1 ∷ 2 ∷ []) body in
     let seen = idsIn idSize (seenRing n) (n .seen .len) ss in
     let a = unseen-less (n .cache .flags) seen (once ids) f in
     let b = once-less [] ids f in
@@ -207,22 +208,22 @@ ids-shorter w [] less = omega arith
 ids-shorter {x = x} w (i ∷ is) less = omega (arith, shorter x i is less, never-longer (w .means))
 
 -- nothing to ask for: no bytes
-pub ask-none : (n : Node) (ss body : List ℕ) → unseenOf n ss (offered body) ≡ [] → askBytes n ss body ≡ []
+pub ask-none : (n : Node) (ss body : List ℕ) → unseenOf n ss (offered (modeOf (n .cache .flags)) body) ≡ [] → askBytes n ss body ≡ []
 unfolding askBytes
-ask-none n ss body e = let ids = unseenOf n ss (offered body) in no-bytes ids (request ids) e
+ask-none n ss body e = let ids = unseenOf n ss (offered (modeOf (n .cache .flags)) body) in no-bytes ids (request ids) e
 
 -- ---- the request for what is offered by a body that means an RPC
 pub request-within : {d : Dialect} (n : Node) (ss : List ℕ) {body : List ℕ} {x : Rpc} → Within d body x
-    → (unseenOf n ss (offered body) ≡ [] → ⊥) → (e : Dialect)
-    → Within e (askBytes n ss body) (request (unseenOf n ss (offered body)))
+    → (unseenOf n ss (offered (d .mode) body) ≡ [] → ⊥) → (e : Dialect)
+    → Within e (askBytes n ss body) (request (unseenOf n ss (offered (d .mode) body)))
 unfolding askBytes
 request-within n ss {body} w there =
-    of-ids w (unseenOf n ss (offered body)) (rw (← offered-means (w .means)) (asked-less n ss body)) there
+    of-ids w (unseenOf n ss (offered (d .mode) body)) (rw (← offered-means (w .means)) (asked-less n ss body)) there
 
 -- ---- the request for what is offered by a body that is taken
 module _ (d : Dialect) (n : Node) (ss body : List ℕ) (fine : acceptOf d body ≡ Fine) (bytes : Bytes body) where
   abbrev asked : List (List ℕ)
-  asked = unseenOf n ss (offered body)
+  asked = unseenOf n ss (offered (d .mode) body)
 
   abbrev meant : (x : Rpc) × Within d body x
   meant = taken-exactly d body bytes .0 fine
@@ -230,11 +231,11 @@ module _ (d : Dialect) (n : Node) (ss body : List ℕ) (fine : acceptOf d body �
   less-asked : Less asked (offersOf (meant .0))
   less-asked = rw (← offered-means (meant .1 .means)) (asked-less n ss body)
 
-  pub ask-means : (unseenOf n ss (offered body) ≡ [] → ⊥) → (e : Dialect)
-      → Within e (askBytes n ss body) (request (unseenOf n ss (offered body)))
+  pub ask-means : (unseenOf n ss (offered (d .mode) body) ≡ [] → ⊥) → (e : Dialect)
+      → Within e (askBytes n ss body) (request (unseenOf n ss (offered (d .mode) body)))
   ask-means there = request-within n ss (meant .1) there
 
-  pub ask-stays : (unseenOf n ss (offered body) ≡ [] → ⊥) → (e : Dialect)
+  pub ask-stays : (unseenOf n ss (offered (d .mode) body) ≡ [] → ⊥) → (e : Dialect)
       → canonBody e (askBytes n ss body) ≡ askBytes n ss body
   unfolding askBytes
   ask-stays there e = canon-written (ask-means there e .means) ∙ sym (some-bytes asked (request asked) there)

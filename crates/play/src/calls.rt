@@ -149,7 +149,7 @@ pub fn set_with(
     }
 }
 
-// Kind 1, which names no flags: unsigned messages are not allowed.
+// Kind 1, which names no flags: unsigned messages are not allowed, and groups are refused.
 fn set(n: u64, most: usize, content: &[u8], run: Run, out: &mut [u8]) -> Run {
     set_with(n, most, 0, content, run, out)
 }

@@ -31,9 +31,9 @@ abbrev pub stateTold : Node → List ℕ → List ℕ → Told
 stateTold n ss cs =
     onLent faultTold (lentOf n ss cs) (done (n .clock ∷ n .seen .count ∷ n .cache .count ∷ []))
 
--- 0.8.0: 10000 times the first number, 100 times the second, and the third
+-- 0.9.0: 10000 times the first number, 100 times the second, and the third
 abbrev pub versionNumber : ℕ
-versionNumber = 800
+versionNumber = 900
 
 -- of Layout in crate stored: another layout is another format
 abbrev pub formatNumber : ℕ

@@ -1,7 +1,8 @@
 -- The contract of each function of the C interface that is lent something, as a record of what it says of the number
 -- that is returned, the values that are handed out, and every other lent byte; and that it leaves no choice: two results
 -- that meet it are the same. Number and values are those of the answer, as Told of its crate has them, and a refusal
--- of a body's bytes also hands out its place; the other values stay. An edition and a dialect are numbers here.
+-- of a body's bytes also hands out its place; the other values stay. An edition and a dialect are numbers here: of an
+-- edition bit 0 counts, of a dialect bit 1, too, the mode.
 use Prim.Native.Nat.{ℕ}
 use mathlib.Core.Path.{_≡_, sym, _∙_}
 use mathlib.Core.Bool.{Bool, cond}
@@ -177,12 +178,12 @@ pub one-decode : {dialect : ℕ} {body t vs : List ℕ} {r r₂ : ℕ} {ws ws₂
     → Decodes dialect body t vs r₂ ws₂ rows₂ → (r ≡ r₂) × (ws ≡ ws₂) × (rows ≡ rows₂)
 one-decode a b = (a .number ∙ sym (b .number), a .values ∙ sym (b .values), a .table ∙ sym (b .table))
 
-pub record Walks (body : List ℕ) (at : ℕ) (vs : List ℕ) (r : ℕ) (ws : List ℕ) : Type 0 where
-  pub number : r ≡ walkTold (walkStep body at) .number
-  pub values : ws ≡ handed (walkTold (walkStep body at)) vs
+pub record Walks (dialect : ℕ) (body : List ℕ) (at : ℕ) (vs : List ℕ) (r : ℕ) (ws : List ℕ) : Type 0 where
+  pub number : r ≡ walkTold (walkStep (dialectOf dialect .mode) body at) .number
+  pub values : ws ≡ handed (walkTold (walkStep (dialectOf dialect .mode) body at)) vs
 
-pub one-walk : {body : List ℕ} {at : ℕ} {vs : List ℕ} {r r₂ : ℕ} {ws ws₂ : List ℕ} → Walks body at vs r ws
-    → Walks body at vs r₂ ws₂ → (r ≡ r₂) × (ws ≡ ws₂)
+pub one-walk : {dialect : ℕ} {body : List ℕ} {at : ℕ} {vs : List ℕ} {r r₂ : ℕ} {ws ws₂ : List ℕ}
+    → Walks dialect body at vs r ws → Walks dialect body at vs r₂ ws₂ → (r ≡ r₂) × (ws ≡ ws₂)
 one-walk a b = (a .number ∙ sym (b .number), a .values ∙ sym (b .values))
 
 -- ---- speaking first: the rows t over the bytes b

@@ -40,7 +40,7 @@ use stored::NODE_SIZE;
 use stored::load;
 use stored::store;
 
-pub const VERSION: u32 = 800;
+pub const VERSION: u32 = 900;
 
 pub const FORMAT: u32 = 3;
 
@@ -99,7 +99,7 @@ fn tell(t: Told, values: &mut [u64; 8]) -> u32
 
 // ---- the node
 
-// A node that holds nothing, in the lent bytes.
+// A node that holds nothing, in the lent bytes. Of the flags bit 0 allows unsigned messages, and bit 1 is the mode: the node passes over groups.
 #[no_mangle]
 pub extern "C" fn pradulins_start(
     node: &mut [u8; NODE_SIZE],
@@ -123,7 +123,7 @@ pub extern "C" fn pradulins_start(
 }
 
 // Admits the message at an index of a body, with the host's word on its signature, at a reading of the clock. The body is read in the edition of its
-// stream; here and below only the lowest bit of that number counts.
+// stream and in the node's mode; here and below only the lowest bit of an edition counts.
 #[no_mangle]
 pub extern "C" fn pradulins_admit(
     node: &mut [u8; NODE_SIZE],
@@ -323,7 +323,8 @@ pub extern "C" fn pradulins_state(
 
 // ---- bodies
 
-// Writes a body anew in canonical bytes. Only the lowest bit of a dialect counts, here and below: it is the edition.
+// Writes a body anew in canonical bytes. Two bits of a dialect count, here and below: bit 0 is the edition, bit 1 the mode, in which groups are passed
+// over.
 #[no_mangle]
 pub extern "C" fn pradulins_encode(
     dialect: u32,
@@ -389,13 +390,15 @@ pub extern "C" fn pradulins_decode(
     tell(told_decoded(answer), values)
 }
 
-// The top-level field at a place of a body.
+// The top-level field at a place of a body; of the dialect only the mode matters.
 #[no_mangle]
-pub extern "C" fn pradulins_walk(body: &[u8], at: usize, values: &mut [u64; 8]) -> u32
-    ensures { λ r. ⌜ Walks (now (body .entry)) at (now (values .entry)) r (now (values .exit)) ⌝ }
+pub extern "C" fn pradulins_walk(dialect: u32, body: &[u8], at: usize, values: &mut [u64; 8]) -> u32
+    ensures { λ r. ⌜ Walks dialect (now (body .entry)) at (now (values .entry)) r (now (values .exit)) ⌝ }
 {
+    let spoken = dialect_of(dialect as u64);
+    let mode = spoken.mode;
     let c = Cursor { at: at };
-    let answer = c.step(body);
+    let answer = c.step(mode, body);
     tell(told_walk(answer), values)
 }
 

@@ -3,8 +3,9 @@
 // settings (ttl u64; max_seen, history_len, max_messages u16), 2 admit (now u64, index u16, verified u8: 1 is the host's word, body), 3 heartbeat (now u64), 4
 // advertise (room u32, windows u16, topic), 5 ask (room u32, body), 6 serve (room u32, body), 7 lend (length of the seen store u32, of the cache
 // store u32), 8 hurt (what u8, place u32, value u64), 9 contains (id), 10 lookup (id), 11 state, 12 why (windows u16, length of the id u16, id,
-// topic), 21 as 1, and then flags u16, 22 and 25 an edition u8 (0 is 1.1, 1 is 1.2), and then as 2 and 5, 26 serve (edition u8, room u32, length of
-// the lent body u32, lent body, body). The stores are lent as long as the settings say until a record of kind 7.
+// topic), 21 as 1, and then flags u16 (bit 0: unsigned messages are allowed; bit 1: groups are passed over), 22 and 25 an edition u8 (0 is 1.1, 1 is
+// 1.2), and then as 2 and 5, 26 serve (edition u8, room u32, length of the lent body u32, lent body, body). The stores are lent as long as the
+// settings say until a record of kind 7.
 mod calls;
 mod hurt;
 mod state;

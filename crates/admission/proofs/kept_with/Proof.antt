@@ -2,10 +2,11 @@
 use denote.Ref.{now}
 use mathlib.Core.Path.{_≡_, refl, sym, _∙_}
 use native.Mathlib.Omega.{arith}
+use Rattle.basis.specs.Dialect.{modeOf}
 use Rattle.admission.specs.Admission.{spansIn}
 use Rattle.admission.specs.AdmissionLaws.{gives-refused}
 use Rattle.admission.specs.TopicLaws.{counts-places, length-spans}
-use Rattle.admission.proofs.Turns.{spans-found, kept-not, kept-other, kept-count, kept-many, kept-names}
+use Rattle.admission.proofs.Turns.{read-in, spans-found, kept-not, kept-other, kept-count, kept-many, kept-names}
 use borrow.Author.Needs.{needs}
 use Rattle.admission.proofs.kept_with.Statement.{statement}
 use Rattle.admission.proofs.kept_with.Tie as tie
@@ -15,6 +16,9 @@ use Rattle.admission.proofs.names.Reads as names-reads
 use Rattle.admission.proofs.same_spans.Reads as same-spans-reads
 use Rattle.admission.proofs.topics_of.Reads as topics-of-reads
 use Rattle.schema.proofs.count.Reads as count-reads
+
+mode-of-requires : tie.Need-mode-of-requires
+mode-of-requires c κs = search needs
 
 count-requires : tie.Need-count-requires
 count-requires c κs = search needs
@@ -35,28 +39,20 @@ topics-of-requires : tie.Need-topics-of-requires
 topics-of-requires c κs = search needs
 
 returns : tie.Need-returns
-returns c = kept-count _ (now (c .before .before .before .before .before .before .before .before .before .before .before .before .before .before .args
-    .part)) (now (c .before .before .before .before .before .before .before .before .before .before .before .before .before .before .args .id))
-    (spansIn (now (c .before .before .before .before .before .before .before .before .before .before .before .before .before .before .args
-    .kept-starts)) (now (c .before .before .before .before .before .before .before .before .before .before .before .before .before .before .args
-    .kept-sizes)) (c .before .before .before .before .before .before .before .before .before .before .before .before .before .before .args .n)) (λ z.
-    (c .if1 .taken) (counts-places (now (c .before .before .before .before .before .before .before .before .before .before .before .before .before
-    .before .args .part)) (c .before .before .before .before .topics-of .ensures .topics) ∙ z ∙ length-spans _ _ _))
+returns c = kept-count _ (now (c .before .before .before .before .before .before .before .before .before .before .before .before .before .before .before .args
+    .part)) (now (c .before .before .before .before .before .before .before .before .before .before .before .before .before .before .before .args .id))
+    (spansIn (now (c .before .before .before .before .before .before .before .before .before .before .before .before .before .before .before .args
+    .kept-starts)) (now (c .before .before .before .before .before .before .before .before .before .before .before .before .before .before .before .args
+    .kept-sizes)) (c .before .before .before .before .before .before .before .before .before .before .before .before .before .before .before .args .n)) (λ z.
+    (c .if1 .taken) (counts-places (modeOf (c .before .before .before .before .before .before .before .before .before .before .before .before .before .before .before .args .flags)) (now (c .before .before .before .before .before .before .before .before .before .before .before .before .before .before .before .args .part)) ((rw (c .before .before .before .before .before .before .before .before .before .before .mode-of .ensures) at (c .before .before .before .before .topics-of .ensures)) .topics) ∙ z ∙ length-spans _ _ _))
 
 returns-2 : tie.Need-returns-2
-returns-2 c = kept-many _ (now (c .before .before .before .before .before .before .before .before .before .before .before .before .before .before
-    .before .args .part)) (now (c .before .before .before .before .before .before .before .before .before .before .before .before .before .before
-    .before .args .id)) (spansIn (now (c .before .before .before .before .before .before .before .before .before .before .before .before .before
-    .before .before .args .kept-starts)) (now (c .before .before .before .before .before .before .before .before .before .before .before .before
-    .before .before .before .args .kept-sizes)) (c .before .before .before .before .before .before .before .before .before .before .before .before
-    .before .before .before .args .n)) (omega (
-      arith,
-      counts-places (now (c .before .before .before .before .before .before .before .before .before
-          .before .before .before .before .before .before .args .part)) (c .before .before .before .before .before .topics-of .ensures .topics),
-      c .before
-          .if1 .left,
-      c .if2 .taken,
-    ))
+returns-2 c = kept-many _ (now (c .before .before .before .before .before .before .before .before .before .before .before .before .before .before .before .before .args .part)) (now (c .before .before .before .before .before .before .before .before .before .before .before .before .before .before .before .before .args .id)) (spansIn (now (c .before .before .before .before .before .before .before .before .before .before .before .before .before .before .before .before .args .kept-starts)) (now (c .before .before .before .before .before .before .before .before .before .before .before .before .before .before .before .before .args .kept-sizes)) (c .before .before .before .before .before .before .before .before .before .before .before .before .before .before .before .before .args .n)) (omega (
+  arith,
+  counts-places (modeOf (c .before .before .before .before .before .before .before .before .before .before .before .before .before .before .before .before .args .flags)) (now (c .before .before .before .before .before .before .before .before .before .before .before .before .before .before .before .before .args .part)) ((rw (c .before .before .before .before .before .before .before .before .before .before .before .mode-of .ensures) at (c .before .before .before .before .before .topics-of .ensures)) .topics),
+  c .before .if1 .left,
+  c .if2 .taken,
+))
 
 slice-aggregate-same-spans : tie.Need-slice-aggregate-same-spans
 slice-aggregate-same-spans c = search needs
@@ -68,51 +64,30 @@ same-spans-requires : tie.Need-same-spans-requires
 same-spans-requires c κs = search needs
 
 names-requires : tie.Need-names-requires
-names-requires c κs = search needs
+names-requires c κs = (rw (c .before .before .before .before .before .before .before .before .before .before .before .before .before .before .before .mode-of .ensures) at (c .before .before .before .before .before .before .before .before .before .topics-of .ensures)) .topics
 
 returns-3 : tie.Need-returns-3
-returns-3 c = kept-names _ (now (c .before .before .before .before .before .before .before .before .before .before .before .before .before .before
-    .before .before .before .before .before .before .args .part)) (now (c .before .before .before .before .before .before .before .before .before
-    .before .before .before .before .before .before .before .before .before .before .before .args .id)) (spansIn (now (c .before .before .before
-    .before .before .before .before .before .before .before .before .before .before .before .before .before .before .before .before .before .args
-    .kept-starts)) (now (c .before .before .before .before .before .before .before .before .before .before .before .before .before .before .before
-    .before .before .before .before .before .args .kept-sizes)) (c .before .before .before .before .before .before .before .before .before .before
-    .before .before .before .before .before .before .before .before .before .before .args .n)) _ _ (sym (c .before .before .before .before .before
-    .before .before .before .before .before .before .before .before .before .before .count .ensures) ∙ (c .before .before .before .before .before
-    .before .before .before .before .before .before .before .before .enum-told2 .given .1)) (sym (rw (spans-found (now (c .before .before .before
-    .before .before .before .before .before .before .before .before .before .before .before .before .before .before .before .before .before .args
-    .part)) _ _ _ _ _ _ (counts-places (now (c .before .before .before .before .before .before .before .before .before .before .before .before .before
-    .before .before .before .before .before .before .before .args .part)) (c .before .before .before .before .before .before .before .before .before
-    .before .topics-of .ensures .topics)) (c .before .before .before .before .before .before .if1 .left) (c .before .before .before .before .before
-    .if2 .left) refl refl (c .before .before .before .before .before .before .before .before .before .before .topics-of .ensures .starts) (c .before
-    .before .before .before .before .before .before .before .before .before .topics-of .ensures .sizes)) at (c .before .before .same-spans .ensures))
+returns-3 c = kept-names _ (now (c .before .before .before .before .before .before .before .before .before .before .before .before .before .before .before .before .before .before .before .before .before .args .part)) (now (c .before .before .before .before .before .before .before .before .before .before .before .before .before .before .before .before .before .before .before .before .before .args .id)) (spansIn (now (c .before .before .before .before .before .before .before .before .before .before .before .before .before .before .before .before .before .before .before .before .before .args
+    .kept-starts)) (now (c .before .before .before .before .before .before .before .before .before .before .before .before .before .before .before .before .before .before .before .before .before .args .kept-sizes)) (c .before .before .before .before .before .before .before .before .before .before .before .before .before .before .before .before .before .before .before .before .before .args .n)) _ _ (sym (read-in _ _ (c .before .before .before .before .before .before .before .before .before .before .before .before .before .before .before .before .mode-of .ensures) (c .before .before .before .before .before .before .before .before .before .before .before .before .before .before .before .count .ensures)) ∙ (c .before .before .before .before .before .before .before .before .before .before .before .before .before .enum-told2 .given .1)) (sym (rw (spans-found (modeOf (c .before .before .before .before .before .before .before .before .before .before .before .before .before .before .before .before .before .before .before .before .before .args .flags)) (now (c .before .before .before .before .before .before .before .before .before .before .before .before .before .before .before .before .before .before .before .before .before .args
+    .part)) _ _ _ _ _ _ (counts-places (modeOf (c .before .before .before .before .before .before .before .before .before .before .before .before .before .before .before .before .before .before .before .before .before .args .flags)) (now (c .before .before .before .before .before .before .before .before .before .before .before .before .before .before .before .before .before .before .before .before .before .args .part)) ((rw (c .before .before .before .before .before .before .before .before .before .before .before .before .before .before .before .before .mode-of .ensures) at (c .before .before .before .before .before .before .before .before .before .before .topics-of .ensures)) .topics)) (c .before .before .before .before .before .before .if1 .left) (c .before .before .before .before .before .if2 .left) refl refl ((rw (c .before .before .before .before .before .before .before .before .before .before .before .before .before .before .before .before .mode-of .ensures) at (c .before .before .before .before .before .before .before .before .before .before .topics-of .ensures)) .starts) ((rw (c .before .before .before .before .before .before .before .before .before .before .before .before .before .before .before .before .mode-of .ensures) at (c .before .before .before .before .before .before .before .before .before .before .topics-of .ensures)) .sizes)) at (c .before .before .same-spans .ensures))
     ∙ (c .before .if3 .taken)) (c .names .ensures)
 
 returns-4 : tie.Need-returns-4
-returns-4 c = kept-not _ (now (c .before .before .before .before .before .before .before .args .part)) (now (c .before .before .before .before .before
-    .before .before .args .id)) (spansIn (now (c .before .before .before .before .before .before .before .args .kept-starts)) (now (c .before .before
-    .before .before .before .before .before .args .kept-sizes)) (c .before .before .before .before .before .before .before .args .n)) (gives-refused _ _
-    _ _ (sym (c .before .before .count .ensures) ∙ (c .enum-told .given .1)))
+returns-4 c = kept-not _ (now (c .before .before .before .before .before .before .before .before .args .part)) (now (c .before .before .before .before .before .before .before .before .args .id)) (spansIn (now (c .before .before .before .before .before .before .before .before .args .kept-starts)) (now (c .before .before .before .before .before .before .before .before .args .kept-sizes)) (c .before .before .before .before .before .before .before .before .args .n)) (gives-refused _ _
+    _ _ (sym (read-in _ _ (c .before .before .before .mode-of .ensures) (c .before .before .count .ensures)) ∙ (c .enum-told .given .1)))
 
 returns-5 : tie.Need-returns-5
-returns-5 c = kept-other _ (now (c .before .before .before .before .before .before .before .before .before .before .before .before .before .before
-    .before .before .before .before .before .args .part)) (now (c .before .before .before .before .before .before .before .before .before .before
-    .before .before .before .before .before .before .before .before .before .args .id)) (spansIn (now (c .before .before .before .before .before
-    .before .before .before .before .before .before .before .before .before .before .before .before .before .before .args .kept-starts)) (now (c
-    .before .before .before .before .before .before .before .before .before .before .before .before .before .before .before .before .before .before
-    .before .args .kept-sizes)) (c .before .before .before .before .before .before .before .before .before .before .before .before .before .before
-    .before .before .before .before .before .args .n)) (sym (rw (spans-found (now (c .before .before .before .before .before .before .before .before
-    .before .before .before .before .before .before .before .before .before .before .before .args .part)) _ _ _ _ _ _ (counts-places (now (c .before
-    .before .before .before .before .before .before .before .before .before .before .before .before .before .before .before .before .before .before
-    .args .part)) (c .before .before .before .before .before .before .before .before .before .topics-of .ensures .topics)) (c .before .before .before
-    .before .before .if1 .left) (c .before .before .before .before .if2 .left) refl refl (c .before .before .before .before .before .before .before
-    .before .before .topics-of .ensures .starts) (c .before .before .before .before .before .before .before .before .before .topics-of .ensures
-    .sizes)) at (c .before .same-spans .ensures)) ∙ (c .if3 .left))
+returns-5 c =
+    let found = rw (c .before .before .before .before .before .before .before .before .before .before .before .before .before .before .before .mode-of .ensures) at (c .before .before .before .before .before .before .before .before .before .topics-of .ensures) in
+    kept-other _ (now (c .before .before .before .before .before .before .before .before .before .before .before .before .before .before .before .before .before .before .before .before .args .part)) (now (c .before .before .before .before .before .before .before .before .before .before .before .before .before .before .before .before .before .before .before .before .args .id)) (spansIn (now (c .before .before .before .before .before .before .before .before .before .before .before .before .before .before .before .before .before .before .before .before .args .kept-starts)) (now (c .before .before .before .before .before .before .before .before .before .before .before .before .before .before .before .before .before .before .before .before .args .kept-sizes)) (c .before .before .before .before .before .before .before .before .before .before .before .before .before .before .before .before .before .before .before .before .args .n))
+    (sym (rw (spans-found (modeOf (c .before .before .before .before .before .before .before .before .before .before .before .before .before .before .before .before .before .before .before .before .args .flags)) (now (c .before .before .before .before .before .before .before .before .before .before .before .before .before .before .before .before .before .before .before .before .args .part)) _ _ _ _ _ _ (counts-places (modeOf (c .before .before .before .before .before .before .before .before .before .before .before .before .before .before .before .before .before .before .before .before .args .flags)) (now (c .before .before .before .before .before .before .before .before .before .before .before .before .before .before .before .before .before .before .before .before .args .part)) (found .topics))
+    (c .before .before .before .before .before .if1 .left) (c .before .before .before .before .if2 .left) refl refl (found .starts) (found .sizes)) at (c .before .same-spans .ensures)) ∙ (c .if3 .left))
 
 pub kept-with-spec : {M : Type 1} → statement M
 kept-with-spec =
     tie.close
     (tie.spec
+    mode-of-requires
     count-requires
     enum-told
     enum-told-2

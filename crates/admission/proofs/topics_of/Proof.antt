@@ -22,16 +22,16 @@ use Rattle.admission.proofs.note.Reads as note-reads
 use Rattle.protobuf.proofs.read_field.Reads as read-field-reads
 
 abbrev Inv-loop : tie.InvT-loop
-Inv-loop part starts₀ sizes₀ at₀ n₀ long₀ starts sizes at n long =
-    let ts = topicsAlong part (walkAt part at) in
-    let ps = placesAlong (walkAt part at) in
-    (at ≤ length part) × (n ≤ at) × (length (topicsOf part) ≡ n + length ts) × (firstLong (topicsOf part) ≡ longFrom long ts)
-    × (sets starts n (startsOf ps) ≡ sets starts₀ 0 (startsOf (topicPlaces part))) × (sets sizes n (sizesOf ps) ≡ sets sizes₀ 0 (sizesOf (topicPlaces
+Inv-loop mode part starts₀ sizes₀ at₀ n₀ long₀ starts sizes at n long =
+    let ts = topicsAlong part (walkAt mode part at) in
+    let ps = placesAlong (walkAt mode part at) in
+    (at ≤ length part) × (n ≤ at) × (length (topicsOf mode part) ≡ n + length ts) × (firstLong (topicsOf mode part) ≡ longFrom long ts)
+    × (sets starts n (startsOf ps) ≡ sets starts₀ 0 (startsOf (topicPlaces mode part))) × (sets sizes n (sizesOf ps) ≡ sets sizes₀ 0 (sizesOf (topicPlaces mode
     part)))
     × (length starts ≡ length starts₀) × (length sizes ≡ length sizes₀)
 
 abbrev μ-loop : tie.MeasureT-loop
-μ-loop part starts₀ sizes₀ at₀ n₀ long₀ starts sizes at n long = length part - at
+μ-loop mode part starts₀ sizes₀ at₀ n₀ long₀ starts sizes at n long = length part - at
 
 loop-holds : tie.Need-loop-holds Inv-loop μ-loop
 unfolding topicsOf topicPlaces
@@ -51,11 +51,11 @@ same-length-2 c = search needs
 
 returns : tie.Need-returns Inv-loop μ-loop
 returns c = record {
-  topics = topics-done _ _ _ _ (topics-end _ _ (sym (c .enum-told .given .1) ∙ (c .before .before .read-field .ensures))) (c .before .before .before
+  topics = topics-done (c .before .before .before .before .before .before .before .before .args .mode) _ _ _ _ (topics-end (c .before .before .before .before .before .before .before .before .args .mode) _ _ (sym (c .enum-told .given .1) ∙ (c .before .before .read-field .ensures))) (c .before .before .before
       .before .loop .inv .2) (c .before .before .before .before .loop .inv .3);
-  starts = note-done (λ (s : Span). s .start) _ _ _ _ (places-end _ _ (sym (c .enum-told .given .1) ∙ (c .before .before .read-field .ensures))) (c
+  starts = note-done (λ (s : Span). s .start) _ _ _ _ (places-end (c .before .before .before .before .before .before .before .before .args .mode) _ _ (sym (c .enum-told .given .1) ∙ (c .before .before .read-field .ensures))) (c
       .before .before .before .before .loop .inv .4);
-  sizes = note-done (λ (s : Span). s .size) _ _ _ _ (places-end _ _ (sym (c .enum-told .given .1) ∙ (c .before .before .read-field .ensures))) (c
+  sizes = note-done (λ (s : Span). s .size) _ _ _ _ (places-end (c .before .before .before .before .before .before .before .before .args .mode) _ _ (sym (c .enum-told .given .1) ∙ (c .before .before .read-field .ensures))) (c
       .before .before .before .before .loop .inv .5);
 }
 
@@ -70,11 +70,11 @@ same-length-4 c = search needs
 
 returns-2 : tie.Need-returns-2 Inv-loop μ-loop
 returns-2 c = record {
-  topics = topics-done _ _ _ _ (topics-refused _ _ _ (sym (c .enum-told2 .given .1) ∙ (c .before .before .read-field .ensures))) (c .before .before
+  topics = topics-done (c .before .before .before .before .before .before .before .before .args .mode) _ _ _ _ (topics-refused (c .before .before .before .before .before .before .before .before .args .mode) _ _ _ (sym (c .enum-told2 .given .1) ∙ (c .before .before .read-field .ensures))) (c .before .before
       .before .before .loop .inv .2) (c .before .before .before .before .loop .inv .3);
-  starts = note-done (λ (s : Span). s .start) _ _ _ _ (places-refused _ _ _ (sym (c .enum-told2 .given .1) ∙ (c .before .before .read-field
+  starts = note-done (λ (s : Span). s .start) _ _ _ _ (places-refused (c .before .before .before .before .before .before .before .before .args .mode) _ _ _ (sym (c .enum-told2 .given .1) ∙ (c .before .before .read-field
       .ensures))) (c .before .before .before .before .loop .inv .4);
-  sizes = note-done (λ (s : Span). s .size) _ _ _ _ (places-refused _ _ _ (sym (c .enum-told2 .given .1) ∙ (c .before .before .read-field .ensures)))
+  sizes = note-done (λ (s : Span). s .size) _ _ _ _ (places-refused (c .before .before .before .before .before .before .before .before .args .mode) _ _ _ (sym (c .enum-told2 .given .1) ∙ (c .before .before .read-field .ensures)))
       (c .before .before .before .before .loop .inv .5);
 }
 
@@ -82,7 +82,7 @@ enum-known-step : tie.Need-enum-known-step Inv-loop μ-loop
 enum-known-step c = search needs
 
 sub-len : tie.Need-sub-len Inv-loop μ-loop
-sub-len c = (field-stands (c .before .before .before .before .before .before .before .before .before .before .args .part .now) (c .before .before
+sub-len c = (field-stands (c .before .before .before .before .before .before .before .before .before .before .args .mode) (c .before .before .before .before .before .before .before .before .before .before .args .part .now) (c .before .before
     .before .before .before .before .loop .at) _ (sym (c .before .before .step .given .1) ∙ (c .before .before .before .before .read-field .ensures)))
     .ends
 
@@ -104,7 +104,7 @@ long-after-requires c κs = search needs
 loop-less : tie.Need-loop-less Inv-loop μ-loop
 loop-less c =
     let f = c .before .before .before .before .before .before .before .before .before .before .before .before .before .step .given .0 .0 in
-    let st = field-stands (c .before .before .before .before .before .before .before .before .before .before .before .before .before .before .before
+    let st = field-stands (c .before .before .before .before .before .before .before .before .before .before .before .before .before .before .before .before .before .before .before .before .before .args .mode) (c .before .before .before .before .before .before .before .before .before .before .before .before .before .before .before
     .before .before .before .before .before .before .args .part .now) (c .before .before .before .before .before .before .before .before .before
     .before .before .before .before .before .before .before .before .loop .at) f (sym (c .before .before .before .before .before .before .before
     .before .before .before .before .before .before .step .given .1) ∙ (c .before .before .before .before .before .before .before .before .before
@@ -117,7 +117,7 @@ loop-again c =
     let e = sym (c .before .before .before .before .before .before .before .before .before .before .before .before .before .step .given .1) ∙ (c
     .before .before .before .before .before .before .before .before .before .before .before .before .before .before .before .read-field .ensures)
     in
-    let st = field-stands (c .before .before .before .before .before .before .before .before .before .before .before .before .before .before .before
+    let st = field-stands (c .before .before .before .before .before .before .before .before .before .before .before .before .before .before .before .before .before .before .before .before .before .args .mode) (c .before .before .before .before .before .before .before .before .before .before .before .before .before .before .before
     .before .before .before .before .before .before .args .part .now) (c .before .before .before .before .before .before .before .before .before
     .before .before .before .before .before .before .before .before .loop .at) f e in
     let k = at-most (isBytes 4 f) (c .before .before .before .before .before .before .before .before .before .before .before .before .before .before
@@ -125,24 +125,24 @@ loop-again c =
       st .within,
       omega arith,
       (c .before .before .before .before .before .before .before .before .before .before .before .before .before .before .before .before .before .loop
-          .inv .2) ∙ count-more (c .before .before .before .before .before .before .before .before .before .before .before .before .before .before
+          .inv .2) ∙ count-more (c .before .before .before .before .before .before .before .before .before .before .before .before .before .before .before .before .before .before .before .before .before .args .mode) (c .before .before .before .before .before .before .before .before .before .before .before .before .before .before
           .before .before .before .before .before .before .before .args .part .now) (c .before .before .before .before .before .before .before .before
           .before .before .before .before .before .before .before .before .before .loop .at) (c .before .before .before .before .before .before
           .before .before .before .before .before .before .before .before .before .before .before .loop .n) (c .before .count-after .result) f e (c
           .before .count-after .ensures),
       (c .before .before .before .before .before .before .before .before .before .before .before .before .before .before .before .before .before .loop
-          .inv .3) ∙ long-more (c .before .before .before .before .before .before .before .before .before .before .before .before .before .before
+          .inv .3) ∙ long-more (c .before .before .before .before .before .before .before .before .before .before .before .before .before .before .before .before .before .before .before .before .before .args .mode) (c .before .before .before .before .before .before .before .before .before .before .before .before .before .before
           .before .before .before .before .before .before .before .args .part .now) (c .before .before .before .before .before .before .before .before
           .before .before .before .before .before .before .before .before .before .loop .at) (c .before .before .before .before .before .before
           .before .before .before .before .before .before .before .before .before .before .before .loop .long) (c .long-after .result) f e st (c
           .long-after .ensures),
-      sym (note-more (λ (s : Span). s .start) (c .before .before .before .before .before .before .before .before .before .before .before .before
+      sym (note-more (λ (s : Span). s .start) (c .before .before .before .before .before .before .before .before .before .before .before .before .before .before .before .before .before .before .before .before .before .args .mode) (c .before .before .before .before .before .before .before .before .before .before .before .before
           .before .before .before .before .before .before .before .before .before .args .part .now) (c .before .before .before .before .before .before
           .before .before .before .before .before .before .before .before .before .before .before .loop .at) f _ _ _ _ _ e (c .before .before .before
           .before .before .before .before .before .before .before .is-topic .ensures) (c .before .before .before .before .before .before .before
           .before .note .ensures) (c .before .count-after .ensures)) ∙ (c .before .before .before .before .before .before .before .before .before
           .before .before .before .before .before .before .before .before .loop .inv .4),
-      sym (note-more (λ (s : Span). s .size) (c .before .before .before .before .before .before .before .before .before .before .before .before
+      sym (note-more (λ (s : Span). s .size) (c .before .before .before .before .before .before .before .before .before .before .before .before .before .before .before .before .before .before .before .before .before .args .mode) (c .before .before .before .before .before .before .before .before .before .before .before .before
           .before .before .before .before .before .before .before .before .before .args .part .now) (c .before .before .before .before .before .before
           .before .before .before .before .before .before .before .before .before .before .before .loop .at) f _ _ _ _ _ e (c .before .before .before
           .before .before .before .before .before .before .before .is-topic .ensures) (c .before .before .before .before .note2 .ensures) (c .before
@@ -168,9 +168,9 @@ same-length-6 c = search needs
 
 returns-3 : tie.Need-returns-3 Inv-loop μ-loop
 returns-3 c = record {
-  topics = topics-done _ _ _ _ (topics-past _ _ (c .loop-test .left)) (c .before .loop .inv .2) (c .before .loop .inv .3);
-  starts = note-done (λ (s : Span). s .start) _ _ _ _ (places-past _ _ (c .loop-test .left)) (c .before .loop .inv .4);
-  sizes = note-done (λ (s : Span). s .size) _ _ _ _ (places-past _ _ (c .loop-test .left)) (c .before .loop .inv .5);
+  topics = topics-done (c .before .before .before .before .before .args .mode) _ _ _ _ (topics-past (c .before .before .before .before .before .args .mode) _ _ (c .loop-test .left)) (c .before .loop .inv .2) (c .before .loop .inv .3);
+  starts = note-done (λ (s : Span). s .start) _ _ _ _ (places-past (c .before .before .before .before .before .args .mode) _ _ (c .loop-test .left)) (c .before .loop .inv .4);
+  sizes = note-done (λ (s : Span). s .size) _ _ _ _ (places-past (c .before .before .before .before .before .args .mode) _ _ (c .loop-test .left)) (c .before .loop .inv .5);
 }
 
 pub topics-of-spec : {M : Type 1} → statement M

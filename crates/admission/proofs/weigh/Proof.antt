@@ -1,7 +1,10 @@
 -- `admission::weigh` meets its contract: the id's places pick the case, and the sender is tested before the seqno is looked at.
 use denote.Ref.{now}
-use mathlib.Core.Path.{refl, _∙_}
+use mathlib.Core.Path.{refl, sym, ap, _∙_}
+use Rattle.basis.specs.declared.Mode.{Mode}
+use Rattle.basis.specs.Dialect.{modeOf}
 use Rattle.ids.specs.IdLaws.{Fits, id-fits}
+use Rattle.admission.specs.Admission.{topicsIn}
 use Rattle.admission.proofs.Turns.{admit-on, first-inside, fifth-inside, parts-of, peer-on, peer-not, signed-on}
 use borrow.Author.Needs.{needs}
 use Rattle.admission.proofs.weigh.Statement.{statement}
@@ -13,6 +16,9 @@ use Rattle.admission.proofs.signed.Reads as signed-reads
 use Rattle.admission.proofs.allows_unsigned.Reads as allows-unsigned-reads
 use Rattle.ids.proofs.id_of.Reads as id-of-reads
 use Rattle.schema.proofs.slots_of.Reads as slots-of-reads
+
+mode-of-requires : tie.Need-mode-of-requires
+mode-of-requires c κs = search needs
 
 slots-of-requires : tie.Need-slots-of-requires
 slots-of-requires c κs = search needs
@@ -30,20 +36,20 @@ enum-told-2 : tie.Need-enum-told-2
 enum-told-2 c = search needs
 
 known-requires : tie.Need-known-requires
-known-requires c κs = first-inside _ _ (c .before .before .before .slots-of .ensures)
+known-requires c κs = first-inside _ _ _ (c .before .before .before .slots-of .ensures)
 
 returns : tie.Need-returns
-returns c = peer-on _ _ (c .before .before .before .before .before .slots-of .ensures) _ _ (c .before .known .ensures) _ (c .if1 .taken) refl ∙ admit-on _ _ _ _ _ _ (c .before .before .before .before .before .slots-of .ensures) (c .before .before .before .before .id-of .ensures) (c .before .before .enum-told2 .given .1)
+returns c = peer-on _ _ _ (rw (c .before .before .before .before .before .before .mode-of .ensures) at (c .before .before .before .before .before .slots-of .ensures)) _ _ (c .before .known .ensures) _ (c .if1 .taken) refl ∙ admit-on _ _ _ _ _ _ (rw (c .before .before .before .before .before .before .mode-of .ensures) at (c .before .before .before .before .before .slots-of .ensures)) (c .before .before .before .before .id-of .ensures) (c .before .before .enum-told2 .given .1)
 
 enum-known-id-2 : tie.Need-enum-known-id-2
 enum-known-id-2 c = search needs
 
 known-requires-2 : tie.Need-known-requires-2
-known-requires-2 c κs = first-inside _ _ (c .before .before .before .before .slots-of .ensures)
+known-requires-2 c κs = first-inside _ _ _ (c .before .before .before .before .slots-of .ensures)
 
 -- from and seqno lie within the message
-inside : (c : tie.Then2) → Fits (now (c .before .before .before .before .before .before .before .before .args .part)) (c .before .before .before .id2 .given .0 .0) (c .before .before .before .id2 .given .0 .1 .0) (c .before .before .before .id2 .given .0 .1 .1 .0) (c .before .before .before .id2 .given .0 .1 .1 .1 .0)
-inside c = id-fits _ _ _ _ _ (parts-of _ _ (c .before .before .before .before .before .before .slots-of .ensures) _ _ _ _ _ (c .before .before .before .before .before .id-of .ensures) (c .before .before .before .id2 .given .1))
+inside : (c : tie.Then2) → Fits (now (c .before .before .before .before .before .before .before .before .before .args .part)) (c .before .before .before .id2 .given .0 .0) (c .before .before .before .id2 .given .0 .1 .0) (c .before .before .before .id2 .given .0 .1 .1 .0) (c .before .before .before .id2 .given .0 .1 .1 .1 .0)
+inside c = id-fits _ _ _ _ _ _ (parts-of _ _ _ (c .before .before .before .before .before .before .slots-of .ensures) _ _ _ _ _ (c .before .before .before .before .before .id-of .ensures) (c .before .before .before .id2 .given .1))
 
 sub-signed : tie.Need-sub-signed
 sub-signed c = inside c .from .0
@@ -58,36 +64,34 @@ allows-unsigned-requires : tie.Need-allows-unsigned-requires
 allows-unsigned-requires c κs = search needs
 
 signed-requires : tie.Need-signed-requires
-signed-requires c κs =
-    let q = c .before .before .before .before .before .before .before .before in
-    (q .before .before .pre, fifth-inside _ _ (q .slots-of .ensures))
+signed-requires c κs = (c .before .before .before .before .before .before .before .before .before .before .before .pre ∙ ap (λ (m : Mode). topicsIn m (now (c .before .before .before .before .before .before .before .before .before .before .before .args .part))) (sym (c .before .before .before .before .before .before .before .before .before .mode-of .ensures)), fifth-inside _ _ _ (c .before .before .before .before .before .before .before .before .slots-of .ensures))
 
 returns-2 : tie.Need-returns-2
 returns-2 c =
-    let p = c .before .before .before .before .before .before in
-    let q = p .before .before .before in
-    peer-on _ _ (q .slots-of .ensures) _ _ (c .before .before .before .before .known2 .ensures) _ (c .before .before .before .if2 .taken)
-    (signed-on (now (q .before .before .args .part)) _ (q .slots-of .ensures) _ _ _ _ _ _ _ _ _
-    (parts-of _ _ (q .slots-of .ensures) _ _ _ _ _ (p .before .before .id-of .ensures) (p .id2 .given .1)) (c .before .allows-unsigned .ensures)
-    (c .signed .ensures))
-    ∙ admit-on _ _ _ _ _ _ (q .slots-of .ensures) (p .before .before .id-of .ensures) (p .id2 .given .1)
+    let slots = rw (c .before .before .before .before .before .before .before .before .before .before .mode-of .ensures) at (c .before .before .before .before .before .before .before .before .before .slots-of .ensures) in
+    peer-on _ _ _ slots _ _ (c .before .before .before .before .known2 .ensures) _ (c .before .before .before .if2 .taken)
+    (signed-on (modeOf (c .before .before .before .before .before .before .before .before .before .before .before .before .args .flags)) (now (c .before .before .before .before .before .before .before .before .before .before .before .before .args .part)) _ slots _ _ _ _ _ _ _ _ _
+    (parts-of (modeOf (c .before .before .before .before .before .before .before .before .before .before .before .before .args .flags)) _ _ slots _ _ _ _ _ (c .before .before .before .before .before .before .before .before .id-of .ensures) (c .before .before .before .before .before .before .id2 .given .1)) (c .before .allows-unsigned .ensures)
+    (rw (c .before .before .before .before .before .before .before .before .before .before .mode-of .ensures) at (c .signed .ensures)))
+    ∙ admit-on _ _ _ _ _ _ slots (c .before .before .before .before .before .before .before .before .id-of .ensures) (c .before .before .before .before .before .before .id2 .given .1)
 
 returns-3 : tie.Need-returns-3
-returns-3 c = admit-on _ _ _ _ _ _ (c .before .before .before .slots-of .ensures) (c .before .before .id-of .ensures) (c .enum-told .given .1)
+returns-3 c = admit-on _ _ _ _ _ _ (rw (c .before .before .before .before .mode-of .ensures) at (c .before .before .before .slots-of .ensures)) (c .before .before .id-of .ensures) (c .enum-told .given .1)
 
 returns-4 : tie.Need-returns-4
-returns-4 c = admit-on _ _ _ _ _ _ (c .before .before .before .before .slots-of .ensures) (c .before .before .before .id-of .ensures) (c .before .id .given .1)
+returns-4 c = admit-on _ _ _ _ _ _ (rw (c .before .before .before .before .before .mode-of .ensures) at (c .before .before .before .before .slots-of .ensures)) (c .before .before .before .id-of .ensures) (c .before .id .given .1)
 
 returns-5 : tie.Need-returns-5
-returns-5 c = peer-not _ _ (c .before .before .before .before .before .slots-of .ensures) _ _ (c .before .known .ensures) (c .if1 .left) ∙ admit-on _ _ _ _ _ _ (c .before .before .before .before .before .slots-of .ensures) (c .before .before .before .before .id-of .ensures) (c .before .before .enum-told2 .given .1)
+returns-5 c = peer-not _ _ _ (rw (c .before .before .before .before .before .before .mode-of .ensures) at (c .before .before .before .before .before .slots-of .ensures)) _ _ (c .before .known .ensures) (c .if1 .left) ∙ admit-on _ _ _ _ _ _ (rw (c .before .before .before .before .before .before .mode-of .ensures) at (c .before .before .before .before .before .slots-of .ensures)) (c .before .before .before .before .id-of .ensures) (c .before .before .enum-told2 .given .1)
 
 returns-6 : tie.Need-returns-6
-returns-6 c = peer-not _ _ (c .before .before .before .before .before .before .slots-of .ensures) _ _ (c .before .known2 .ensures) (c .if2 .left) ∙ admit-on _ _ _ _ _ _ (c .before .before .before .before .before .before .slots-of .ensures) (c .before .before .before .before .before .id-of .ensures) (c .before .before .before .id2 .given .1)
+returns-6 c = peer-not _ _ _ (rw (c .before .before .before .before .before .before .before .mode-of .ensures) at (c .before .before .before .before .before .before .slots-of .ensures)) _ _ (c .before .known2 .ensures) (c .if2 .left) ∙ admit-on _ _ _ _ _ _ (rw (c .before .before .before .before .before .before .before .mode-of .ensures) at (c .before .before .before .before .before .before .slots-of .ensures)) (c .before .before .before .before .before .id-of .ensures) (c .before .before .before .id2 .given .1)
 
 pub weigh-spec : {M : Type 1} → statement M
 weigh-spec =
     tie.close
     (tie.spec
+    mode-of-requires
     slots-of-requires
     id-of-requires
     enum-told

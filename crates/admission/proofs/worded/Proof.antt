@@ -14,10 +14,10 @@ limits-requires : tie.Need-limits-requires
 limits-requires c κs = search needs
 
 returns : tie.Need-returns
-returns c = (c .limits .ensures) ∙ ap (λ (v : Bool). onWord v (onLimits (now (c .before .before .before .args .part)) (c .before .before .before .args .fit))) (sym (c .before .if1 .taken))
+returns c = (c .limits .ensures) ∙ ap (λ (v : Bool). onWord v (onLimits (c .before .before .before .args .mode) (now (c .before .before .before .args .part)) (c .before .before .before .args .fit))) (sym (c .before .if1 .taken))
 
 returns-2 : tie.Need-returns-2
-returns-2 c = ap (λ (v : Bool). onWord v (onLimits (now (c .before .before .args .part)) (c .before .before .args .fit))) (sym (c .if1 .left))
+returns-2 c = ap (λ (v : Bool). onWord v (onLimits (c .before .before .args .mode) (now (c .before .before .args .part)) (c .before .before .args .fit))) (sym (c .if1 .left))
 
 pub worded-spec : {M : Type 1} → statement M
 worded-spec = tie.close (tie.spec limits-requires returns returns-2)

@@ -35,16 +35,16 @@ enum-known-id-2 : tie.Need-enum-known-id-2
 enum-known-id-2 c = search needs
 
 sub-total : tie.Need-sub-total
-sub-total c = id-fits (a .mode) (c .before .before .before .before .before .before .before .args .part .now) _ _ _ _ (sym (c .before .before .before .id-parts .ensures) ∙ c .before .id2 .given .1) .from .0
+sub-total c = id-fits (c .before .before .before .before .before .before .before .args .mode) (c .before .before .before .before .before .before .before .args .part .now) _ _ _ _ (sym (c .before .before .before .id-parts .ensures) ∙ c .before .id2 .given .1) .from .0
 
 add-total : tie.Need-add-total
-add-total c = let h = id-fits (a .mode) (c .before .before .before .before .before .before .before .args .part .now) _ _ _ _ (sym (c .before .before .before .id-parts .ensures) ∙ c .before .id2 .given .1) in omega (arith, h .from-short)
+add-total c = let h = id-fits (c .before .before .before .before .before .before .before .args .mode) (c .before .before .before .before .before .before .before .args .part .now) _ _ _ _ (sym (c .before .before .before .id-parts .ensures) ∙ c .before .id2 .given .1) in omega (arith, h .from-short)
 
 sub-total-2 : tie.Need-sub-total-2
-sub-total-2 c = id-fits (a .mode) (c .before .before .before .before .before .before .before .args .part .now) _ _ _ _ (sym (c .before .before .before .id-parts .ensures) ∙ c .before .id2 .given .1) .seqno .0
+sub-total-2 c = id-fits (c .before .before .before .before .before .before .before .args .mode) (c .before .before .before .before .before .before .before .args .part .now) _ _ _ _ (sym (c .before .before .before .id-parts .ensures) ∙ c .before .id2 .given .1) .seqno .0
 
 add-total-2 : tie.Need-add-total-2
-add-total-2 c = let h = id-fits (a .mode) (c .before .before .before .before .before .before .before .args .part .now) _ _ _ _ (sym (c .before .before .before .id-parts .ensures) ∙ c .before .id2 .given .1) in omega (arith, h .from-short, h .seqno-short)
+add-total-2 c = let h = id-fits (c .before .before .before .before .before .before .before .args .mode) (c .before .before .before .before .before .before .before .args .part .now) _ _ _ _ (sym (c .before .before .before .id-parts .ensures) ∙ c .before .id2 .given .1) in omega (arith, h .from-short, h .seqno-short)
 
 returns : tie.Need-returns
 returns c =
@@ -57,34 +57,34 @@ put-bytes-requires : tie.Need-put-bytes-requires
 put-bytes-requires c κs = search needs
 
 sub-put-bytes : tie.Need-sub-put-bytes
-sub-put-bytes c = id-fits (a .mode) (c .before .before .before .before .before .before .before .before .before .before .before .before .before .args .part .now) _ _ _ _ (sym (c .before .before .before .before .before .before .before .before .before .id-parts .ensures) ∙ c .before .before .before .before .before .before .before .id2 .given .1) .from .0
+sub-put-bytes c = id-fits (c .before .before .before .before .before .before .before .before .before .before .before .before .before .args .mode) (c .before .before .before .before .before .before .before .before .before .before .before .before .before .args .part .now) _ _ _ _ (sym (c .before .before .before .before .before .before .before .before .before .id-parts .ensures) ∙ c .before .before .before .before .before .before .before .id2 .given .1) .from .0
 
 part-put-bytes-start : tie.Need-part-put-bytes-start
-part-put-bytes-start c = id-fits (a .mode) (c .before .before .before .before .before .before .before .before .before .before .before .before .before .args .part .now) _ _ _ _ (sym (c .before .before .before .before .before .before .before .before .before .id-parts .ensures) ∙ c .before .before .before .before .before .before .before .id2 .given .1) .from .0
+part-put-bytes-start c = id-fits (c .before .before .before .before .before .before .before .before .before .before .before .before .before .args .mode) (c .before .before .before .before .before .before .before .before .before .before .before .before .before .args .part .now) _ _ _ _ (sym (c .before .before .before .before .before .before .before .before .before .id-parts .ensures) ∙ c .before .before .before .before .before .before .before .id2 .given .1) .from .0
 
 part-put-bytes-end : tie.Need-part-put-bytes-end
-part-put-bytes-end c = id-fits (a .mode) (c .before .before .before .before .before .before .before .before .before .before .before .before .before .args .part .now) _ _ _ _ (sym (c .before .before .before .before .before .before .before .before .before .id-parts .ensures) ∙ c .before .before .before .before .before .before .before .id2 .given .1) .from .1
+part-put-bytes-end c = id-fits (c .before .before .before .before .before .before .before .before .before .before .before .before .before .args .mode) (c .before .before .before .before .before .before .before .before .before .before .before .before .before .args .part .now) _ _ _ _ (sym (c .before .before .before .before .before .before .before .before .before .id-parts .ensures) ∙ c .before .before .before .before .before .before .before .id2 .given .1) .from .1
 
 put-bytes-requires-2 : tie.Need-put-bytes-requires-2
 put-bytes-requires-2 c κs = search needs
 
 sub-put-bytes-2 : tie.Need-sub-put-bytes-2
 sub-put-bytes-2 c =
-    id-fits (a .mode) (c .before .before .before .before .before .before .before .before .before .before .before .before .before .before .before .before .before .before
+    id-fits (c .before .before .before .before .before .before .before .before .before .before .before .before .before .before .before .before .before .before .args .mode) (c .before .before .before .before .before .before .before .before .before .before .before .before .before .before .before .before .before .before
     .args .part .now) _ _ _ _
     (sym (c .before .before .before .before .before .before .before .before .before .before .before .before .before .before .id-parts .ensures)
     ∙ c .before .before .before .before .before .before .before .before .before .before .before .before .id2 .given .1) .seqno .0
 
 part-put-bytes-start-2 : tie.Need-part-put-bytes-start-2
 part-put-bytes-start-2 c =
-    id-fits (a .mode) (c .before .before .before .before .before .before .before .before .before .before .before .before .before .before .before .before .before .before
+    id-fits (c .before .before .before .before .before .before .before .before .before .before .before .before .before .before .before .before .before .before .args .mode) (c .before .before .before .before .before .before .before .before .before .before .before .before .before .before .before .before .before .before
     .args .part .now) _ _ _ _
     (sym (c .before .before .before .before .before .before .before .before .before .before .before .before .before .before .id-parts .ensures)
     ∙ c .before .before .before .before .before .before .before .before .before .before .before .before .id2 .given .1) .seqno .0
 
 part-put-bytes-end-2 : tie.Need-part-put-bytes-end-2
 part-put-bytes-end-2 c =
-    id-fits (a .mode) (c .before .before .before .before .before .before .before .before .before .before .before .before .before .before .before .before .before .before
+    id-fits (c .before .before .before .before .before .before .before .before .before .before .before .before .before .before .before .before .before .before .args .mode) (c .before .before .before .before .before .before .before .before .before .before .before .before .before .before .before .before .before .before
     .args .part .now) _ _ _ _
     (sym (c .before .before .before .before .before .before .before .before .before .before .before .before .before .before .id-parts .ensures)
     ∙ c .before .before .before .before .before .before .before .before .before .before .before .before .id2 .given .1) .seqno .1

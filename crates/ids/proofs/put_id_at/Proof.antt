@@ -26,15 +26,15 @@ enum-known-m-2 c = search needs
 
 sub-put-id : tie.Need-sub-put-id
 sub-put-id c = let a = c .before .before .before .before .before .before .before .before .before .before .args in
-    message-inside (a .mode) (a .body .now) (a .index) _ _ (sym (c .before .before .before .message-at .ensures) ∙ c .before .m2 .given .1) .0
+    message-inside (a .dialect .mode) (a .body .now) (a .index) _ _ (sym (c .before .before .before .message-at .ensures) ∙ c .before .m2 .given .1) .0
 
 part-put-id-start : tie.Need-part-put-id-start
 part-put-id-start c = let a = c .before .before .before .before .before .before .before .before .before .before .args in
-    message-inside (a .mode) (a .body .now) (a .index) _ _ (sym (c .before .before .before .message-at .ensures) ∙ c .before .m2 .given .1) .0
+    message-inside (a .dialect .mode) (a .body .now) (a .index) _ _ (sym (c .before .before .before .message-at .ensures) ∙ c .before .m2 .given .1) .0
 
 part-put-id-end : tie.Need-part-put-id-end
 part-put-id-end c = let a = c .before .before .before .before .before .before .before .before .before .before .args in
-    message-inside (a .mode) (a .body .now) (a .index) _ _ (sym (c .before .before .before .message-at .ensures) ∙ c .before .m2 .given .1) .1
+    message-inside (a .dialect .mode) (a .body .now) (a .index) _ _ (sym (c .before .before .before .message-at .ensures) ∙ c .before .m2 .given .1) .1
 
 put-id-requires : tie.Need-put-id-requires
 put-id-requires c κs = search needs

@@ -2,7 +2,7 @@
 use borrow.Author.Needs.{needs}
 use native.Mathlib.Omega.{arith}
 use Rattle.text.specs.Laws.{puts-none, puts-as}
-use Rattle.inspect.proofs.Answering.{kind-walk, kind-varint, kind-utf8, kind-key, kind-peer, kind-unknown}
+use Rattle.inspect.proofs.Answering.{kind-walk, kind-varint, kind-utf8, kind-key, kind-peer, kind-spoken, kind-unknown}
 use Rattle.inspect.proofs.answer.Statement.{statement}
 use Rattle.inspect.proofs.answer.Tie as tie
 
@@ -20,6 +20,9 @@ answer-key-requires c κs = search needs
 
 answer-peer-requires : tie.Need-answer-peer-requires
 answer-peer-requires c κs = search needs
+
+answer-spoken-requires : tie.Need-answer-spoken-requires
+answer-spoken-requires c κs = search needs
 
 same-length : tie.Need-same-length
 same-length c = search needs
@@ -51,8 +54,14 @@ same-length-5 c = search needs
 returns-5 : tie.Need-returns-5
 returns-5 c = puts-as (kind-peer _ _ (c .before .before .before .before .match .keys5)) (omega arith) (c .before .before .answer-peer .ensures)
 
+same-length-6 : tie.Need-same-length-6
+same-length-6 c = search needs
+
 returns-6 : tie.Need-returns-6
-returns-6 c = puts-as (kind-unknown _ _ (λ e. omega arith) (λ e. omega arith) (λ e. omega arith) (λ e. omega arith) (λ e. omega arith)) (omega arith) (puts-none _ _)
+returns-6 c = puts-as (kind-spoken _ _ (c .before .before .before .before .match .keys6)) (omega arith) (c .before .before .answer-spoken .ensures)
+
+returns-7 : tie.Need-returns-7
+returns-7 c = puts-as (kind-unknown _ _ (λ e. omega arith) (λ e. omega arith) (λ e. omega arith) (λ e. omega arith) (λ e. omega arith) (λ e. omega arith)) (omega arith) (puts-none _ _)
 
 pub answer-spec : {M : Type 1} → statement M
 answer-spec =
@@ -63,6 +72,7 @@ answer-spec =
     answer-utf8-requires
     answer-key-requires
     answer-peer-requires
+    answer-spoken-requires
     same-length
     returns
     same-length-2
@@ -73,4 +83,6 @@ answer-spec =
     returns-4
     same-length-5
     returns-5
-    returns-6)
+    same-length-6
+    returns-6
+    returns-7)

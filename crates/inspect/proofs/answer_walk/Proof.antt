@@ -8,7 +8,7 @@ use Rattle.inspect.proofs.answer_walk.Statement.{statement}
 use Rattle.inspect.proofs.answer_walk.Tie as tie
 
 returns : tie.Need-returns
-returns c = puts-as (walk-short _ (c .if1 .taken)) (omega arith) (puts-none _ _)
+returns c = puts-as (walk-short _ _ (c .if1 .taken)) (omega arith) (puts-none _ _)
 
 little-at-requires : tie.Need-little-at-requires
 little-at-requires c κs = search needs
@@ -38,7 +38,7 @@ same-length : tie.Need-same-length
 same-length c = search needs
 
 returns-2 : tie.Need-returns-2
-returns-2 c = puts-as (walk-answer _ _ _ (c .before .before .before .before .before .before .before .before .before .before .before .before .if1 .left)
+returns-2 c = puts-as (walk-answer _ _ _ _ (c .before .before .before .before .before .before .before .before .before .before .before .before .if1 .left)
     (c .before .before .before .before .before .before .before .before .before .before .before .little-at .ensures)
     (c .before .before .before .before .before .before .before .before .before .step .ensures)) (omega arith)
     (puts-then (wrote-puts (omega arith) (c .before .before .before .before .before .before .put-word .ensures)) (c .before .before .put-walk .ensures))

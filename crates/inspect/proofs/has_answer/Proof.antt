@@ -1,8 +1,12 @@
 -- `inspect::has_answer` meets its contract: the kind picks the call.
+use borrow.Author.Needs.{needs}
 use native.Mathlib.Omega.{arith}
-use Rattle.inspect.proofs.Answering.{has-walk, has-varint, has-utf8, has-key, has-peer, has-none}
+use Rattle.inspect.proofs.Answering.{has-walk, has-varint, has-utf8, has-key, has-peer, has-spoken, has-none}
 use Rattle.inspect.proofs.has_answer.Statement.{statement}
 use Rattle.inspect.proofs.has_answer.Tie as tie
+
+has-spoken-requires : tie.Need-has-spoken-requires
+has-spoken-requires c κs = search needs
 
 returns : tie.Need-returns
 returns c = has-walk _ _ (c .match .keys1)
@@ -20,7 +24,10 @@ returns-5 : tie.Need-returns-5
 returns-5 c = has-peer _ _ (c .match .keys5)
 
 returns-6 : tie.Need-returns-6
-returns-6 c = has-none _ _ (λ e. omega arith) (λ e. omega arith) (λ e. omega arith) (λ e. omega arith) (λ e. omega arith)
+returns-6 c = has-spoken _ _ (c .before .match .keys6) (c .has-spoken .ensures)
+
+returns-7 : tie.Need-returns-7
+returns-7 c = has-none _ _ (λ e. omega arith) (λ e. omega arith) (λ e. omega arith) (λ e. omega arith) (λ e. omega arith) (λ e. omega arith)
 
 pub has-answer-spec : {M : Type 1} → statement M
-has-answer-spec = tie.close (tie.spec returns returns-2 returns-3 returns-4 returns-5 returns-6)
+has-answer-spec = tie.close (tie.spec has-spoken-requires returns returns-2 returns-3 returns-4 returns-5 returns-6 returns-7)

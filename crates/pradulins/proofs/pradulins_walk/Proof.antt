@@ -13,5 +13,10 @@ pradulins-walk-spec =
     (λ c κs. search needs)
     (λ c κs. search needs)
     (λ c κs. search needs)
-    (λ c. let t = told-as walkTold (now (c .before .before .before .before .before .args .values)) (c .before .before .before .step .ensures) (c .before .before .told-walk .ensures) (c .tell .ensures) in
+    (λ c κs. search needs)
+    (λ c. let p = c .before .before .before in
+    let q = p .before in
+    let dialect = q .dialect-of .ensures in
+    let t = told-as walkTold (now (q .before .before .args .values)) (rw dialect at (p .step .ensures))
+    (c .before .before .told-walk .ensures) (c .tell .ensures) in
     record { number = t .0; values = t .1 }))

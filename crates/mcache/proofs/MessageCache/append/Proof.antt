@@ -4,6 +4,7 @@ use Prim.Native.Nat.{_*_}
 use mathlib.Core.Path.{ap, _∙_}
 use native.Mathlib.Omega.{arith}
 use lib.Seq.{sets}
+use Rattle.basis.specs.Dialect.{modeOf}
 use Rattle.mcache.specs.State.{maxTopics}
 use Rattle.mcache.specs.TableLaws.{kept-few}
 use Rattle.mcache.proofs.Steps.{bytes-put, next-lies, appended-is, appended-store}
@@ -72,7 +73,7 @@ put-shorts-requires c κs = let w = next-lies (c .before .before .before .before
     .before .before .before .pre .1 .1 .1 in (
       omega (
         arith,
-        kept-few (now (c .before .before .before .before .before .before .before .before .before
+        kept-few (modeOf (c .before .before .before .before .before .before .before .before .before .before .before .before .before .before .before .before .before .before .args .t1 .flags)) (now (c .before .before .before .before .before .before .before .before .before
             .before .before .before .before .before .before .before .before .before .args .part)),
         f .counts,
         w .8,
@@ -108,7 +109,7 @@ put-shorts-requires-2 c κs = let w = next-lies (c .before .before .before .befo
     .before .before .before .before .before .before .before .before .pre .1 .1 .1 in (
       omega (
         arith,
-        kept-few (now (c .before .before .before .before
+        kept-few (modeOf (c .before .before .before .before .before .before .before .before .before .before .before .before .before .before .before .before .before .before .before .before .before .args .t1 .flags)) (now (c .before .before .before .before
             .before .before .before .before .before .before .before .before .before .before .before .before .before .before .before .before .before .args
             .part)),
         f .counts,
@@ -122,7 +123,7 @@ cast-self : tie.Need-cast-self
 cast-self c = let f = c .before .before .before .before .before .before .before .before .before .before .before .before .before .before .before
     .before .before .before .before .before .before .before .before .pre .1 .1 .1 in omega (
       arith,
-      kept-few (now (c .before .before .before .before
+      kept-few (modeOf (c .before .before .before .before .before .before .before .before .before .before .before .before .before .before .before .before .before .before .before .before .before .before .before .args .t1 .flags)) (now (c .before .before .before .before
           .before .before .before .before .before .before .before .before .before .before .before .before .before .before .before .before .before .before
           .before .args .part)),
       f .counts,

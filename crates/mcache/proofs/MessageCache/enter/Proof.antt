@@ -1,6 +1,6 @@
 use denote.Ref.{now}
 use native.Mathlib.Omega.{arith}
-use Rattle.mcache.proofs.Steps.{entered-none, enter-room, entered-some}
+use Rattle.mcache.proofs.Steps.{entered-none, enter-room, enter-found, entered-some}
 use borrow.Author.Needs.{needs}
 use Rattle.mcache.proofs.MessageCache.enter.Statement.{statement}
 use Rattle.mcache.proofs.MessageCache.enter.Tie as tie
@@ -24,12 +24,12 @@ without-requires c κs = search needs
 
 append-requires : tie.Need-append-requires
 append-requires c κs =
-    let r = enter-room (c .before .before .before .before .before .before .before .before .before .before .args .self) (now (c .before .before .before
-    .before .before .before .before .before .before .before .args .store)) (now (c .before .before .before .before .before .before .before .before
-    .before .before .args .part)) (now (c .before .before .before .before .before .before .before .before .before .before .args .id)) (c .before
-    .before .minus .result) (c .before .without .result) (c .before .before .before .before .if1 .left) (c .before .before .minus .ensures) (c
-    .before .without .ensures) (c .before .before .before .before .before .before .before .before .before .before .pre .0) in
-    (r .0, (r .1, c .before .before .before .before .before .before .before .before .before .before .pre .1))
+    let a = c .before .before .before .before .before .before .before .before .before .before .args in
+    let r = enter-room (a .self) (now (a .store)) (now (a .part)) (now (a .id)) (c .before .before .minus .result) (c .before .without .result) (c .before .before .before .before .if1 .left) (c .before .before .minus .ensures)
+    (c .before .without .ensures) (c .before .before .before .before .before .before .before .before .before .before .pre .0) in
+    let f = enter-found (a .self) (now (a .store)) (now (a .part)) (now (a .id)) (c .before .before .minus .result) (c .before .without .result) (c .before .before .before .before .if1 .left) (c .before .before .minus .ensures)
+    (c .before .without .ensures) _ _ _ (c .before .before .before .before .before .before .before .before .before .before .pre .1 .1) in
+    (r .0, (r .1, (c .before .before .before .before .before .before .before .before .before .before .pre .1 .0, f)))
 
 same-length : tie.Need-same-length
 same-length c = search needs

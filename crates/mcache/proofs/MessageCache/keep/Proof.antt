@@ -3,6 +3,7 @@ use denote.Ref.{now}
 use Prim.Native.Nat.{ℕ}
 use mathlib.Core.Path.{refl, sym, _∙_}
 use native.Mathlib.Omega.{arith}
+use Rattle.basis.specs.Dialect.{modeOf}
 use Rattle.admission.specs.Admission.{Span}
 use Rattle.admission.specs.TopicLaws.{counts-places, starts-within, sizes-within}
 use Rattle.mcache.proofs.Walks.{kept-length, kept-values, kept-below}
@@ -33,6 +34,9 @@ returns c = let a = c .before .before .before .before .before .before .before .b
     .part)) (now (a .id)) (rw (c .before .before .before .before .before .ring .ensures) at (sym (c .before .before .before .before .can-keep
     .ensures) ∙ c .before .before .before .if1 .taken)) (c .before .before .find .result) (c .before .before .find .ensures) (c .if2 .taken)
 
+mode-of-requires : tie.Need-mode-of-requires
+mode-of-requires c κs = search needs
+
 slice-aggregate-topics-of : tie.Need-slice-aggregate-topics-of
 slice-aggregate-topics-of c = search needs
 
@@ -53,13 +57,11 @@ slice-aggregate-enter-2 c = search needs
 
 enter-requires : tie.Need-enter-requires
 enter-requires c κs =
-    let a = c .before .before .before .before .before .before .before .before .before .before .before .before .before .before .before .before .before
-    .before .args in
-    let g = c .before .before .before .before .before .before .before .before .before .before .before .before .before .before .before .before .before
-    .before .good .0 in
-    let k = (rw (c .before .before .before .before .before .before .before .before .before .before .before .before .before .before .ring .ensures) at
-    (sym (c .before .before .before .before .before .before .before .before .before .before .before .before .before .can-keep .ensures) ∙ c
-    .before .before .before .before .before .before .before .before .before .before .before .before .if1 .taken)) in
+    let a = c .before .before .before .before .before .before .before .before .before .before .before .before .before .before .before .before .before .before .before .args in
+    let g = c .before .before .before .before .before .before .before .before .before .before .before .before .before .before .before .before .before .before .before .good .0 in
+    let k = (rw (c .before .before .before .before .before .before .before .before .before .before .before .before .before .before .before .ring .ensures) at
+    (sym (c .before .before .before .before .before .before .before .before .before .before .before .before .before .before .can-keep .ensures) ∙ c .before .before .before .before .before .before .before .before .before .before .before .before .before .if1 .taken)) in
+    let found = rw (c .before .before .before .before .before .before .before .before .before .mode-of .ensures) at (c .before .before .before .before .before .before .topics-of .ensures) in
     let s = kept-short (a .self) (now (a .store)) (now (a .part)) (now (a .id)) k in (
       kept-placed (a .self) (now (a .store)) (now (a .part)) (now (a .id)) k
           (length-unmapped ℕ (a .self .generation) 64 (g .1 .1 .1 .1 .1 .1 .1 .0 .1 .0 .1)) (length-unmapped ℕ (a .self .window) 64 (g .1 .1 .1 .1 .1
@@ -72,40 +74,16 @@ enter-requires c κs =
       (
         s,
         record {
-          counts = kept-length (now (c .before .before .before .before .before .before .before .before .before .before .before .before .before .before
-              .before .before .before .before .args .part)) (c .before .before .before .before .before .before .topics-of .result .count) (c .before
-              .before .before .least .result) (counts-places (now (c .before .before .before .before .before .before .before .before .before .before
-              .before .before .before .before .before .before .before .before .args .part)) (c .before .before .before .before .before .before
-              .topics-of .ensures .topics)) (c .before .before .before .least .ensures);
-          starts = kept-values (now (c .before .before .before .before .before .before .before .before .before .before .before .before .before .before
-              .before .before .before .before .args .part)) (c .before .before .before .before .before .before .topics-of .result .count) (c .before
-              .before .before .least .result) (counts-places (now (c .before .before .before .before .before .before .before .before .before .before
-              .before .before .before .before .before .before .before .before .args .part)) (c .before .before .before .before .before .before
-              .topics-of .ensures .topics)) (c .before .before .before .least .ensures) (λ (s : Span). s .start) _ _ refl (c .before .before .before
-              .before .before .before .topics-of .ensures .starts);
-          sizes = kept-values (now (c .before .before .before .before .before .before .before .before .before .before .before .before .before .before
-              .before .before .before .before .args .part)) (c .before .before .before .before .before .before .topics-of .result .count) (c .before
-              .before .before .least .result) (counts-places (now (c .before .before .before .before .before .before .before .before .before .before
-              .before .before .before .before .before .before .before .before .args .part)) (c .before .before .before .before .before .before
-              .topics-of .ensures .topics)) (c .before .before .before .least .ensures) (λ (s : Span). s .size) _ _ refl (c .before .before .before
-              .before .before .before .topics-of .ensures .sizes);
+          counts = kept-length (modeOf (a .self .flags)) (now (c .before .before .before .before .before .before .before .before .before .before .before .before .before .before .before .before .before .before .before .args .part)) (c .before .before .before .before .before .before .topics-of .result .count) (c .before .before .before .least .result) (counts-places (modeOf (a .self .flags)) (now (c .before .before .before .before .before .before .before .before .before .before .before .before .before .before .before .before .before .before .before .args .part)) (found .topics)) (c .before .before .before .least .ensures);
+          starts = kept-values (modeOf (a .self .flags)) (now (c .before .before .before .before .before .before .before .before .before .before .before .before .before .before .before .before .before .before .before .args .part)) (c .before .before .before .before .before .before .topics-of .result .count) (c .before .before .before .least .result) (counts-places (modeOf (a .self .flags)) (now (c .before .before .before .before .before .before .before .before .before .before .before .before .before .before .before .before .before .before .before .args .part)) (found .topics)) (c .before .before .before .least .ensures) (λ (s : Span). s .start) _ _ refl (found .starts);
+          sizes = kept-values (modeOf (a .self .flags)) (now (c .before .before .before .before .before .before .before .before .before .before .before .before .before .before .before .before .before .before .before .args .part)) (c .before .before .before .before .before .before .topics-of .result .count) (c .before .before .before .least .result) (counts-places (modeOf (a .self .flags)) (now (c .before .before .before .before .before .before .before .before .before .before .before .before .before .before .before .before .before .before .before .args .part)) (found .topics)) (c .before .before .before .least .ensures) (λ (s : Span). s .size) _ _ refl (found .sizes);
           starts-room = omega (arith, c .before .before .before .least .ensures);
           sizes-room = omega (arith, c .before .before .before .least .ensures);
-          starts-small = λ i h. let q = kept-below (now (c .before .before .before .before .before .before .before .before .before .before .before
-              .before .before .before .before .before .before .before .args .part)) (c .before .before .before .before .before .before .topics-of
-              .result .count) (c .before .before .before .least .result) (counts-places (now (c .before .before .before .before .before .before
-              .before .before .before .before .before .before .before .before .before .before .before .before .args .part)) (c .before .before .before
-              .before .before .before .topics-of .ensures .topics)) (c .before .before .before .least .ensures) (λ (s : Span). s .start) _ _ refl (c
-              .before .before .before .before .before .before .topics-of .ensures .starts) _ (starts-within (now (c .before .before .before .before
-              .before .before .before .before .before .before .before .before .before .before .before .before .before .before .args .part))) i h in
+          starts-small = λ i h. let q = kept-below (modeOf (a .self .flags)) (now (c .before .before .before .before .before .before .before .before .before .before .before .before .before .before .before .before .before .before .before .args .part)) (c .before .before .before .before .before .before .topics-of
+              .result .count) (c .before .before .before .least .result) (counts-places (modeOf (a .self .flags)) (now (c .before .before .before .before .before .before .before .before .before .before .before .before .before .before .before .before .before .before .before .args .part)) (found .topics)) (c .before .before .before .least .ensures) (λ (s : Span). s .start) _ _ refl (found .starts) _ (starts-within (modeOf (a .self .flags)) (now (c .before .before .before .before .before .before .before .before .before .before .before .before .before .before .before .before .before .before .before .args .part))) i h in
               omega (arith, s .0);
-          sizes-small = λ i h. let q = kept-below (now (c .before .before .before .before .before .before .before .before .before .before .before
-              .before .before .before .before .before .before .before .args .part)) (c .before .before .before .before .before .before .topics-of
-              .result .count) (c .before .before .before .least .result) (counts-places (now (c .before .before .before .before .before .before
-              .before .before .before .before .before .before .before .before .before .before .before .before .args .part)) (c .before .before .before
-              .before .before .before .topics-of .ensures .topics)) (c .before .before .before .least .ensures) (λ (s : Span). s .size) _ _ refl (c
-              .before .before .before .before .before .before .topics-of .ensures .sizes) _ (sizes-within (now (c .before .before .before .before
-              .before .before .before .before .before .before .before .before .before .before .before .before .before .before .args .part))) i h in
+          sizes-small = λ i h. let q = kept-below (modeOf (a .self .flags)) (now (c .before .before .before .before .before .before .before .before .before .before .before .before .before .before .before .before .before .before .before .args .part)) (c .before .before .before .before .before .before .topics-of
+              .result .count) (c .before .before .before .least .result) (counts-places (modeOf (a .self .flags)) (now (c .before .before .before .before .before .before .before .before .before .before .before .before .before .before .before .before .before .before .before .args .part)) (found .topics)) (c .before .before .before .least .ensures) (λ (s : Span). s .size) _ _ refl (found .sizes) _ (sizes-within (modeOf (a .self .flags)) (now (c .before .before .before .before .before .before .before .before .before .before .before .before .before .before .before .before .before .before .before .args .part))) i h in
               omega (arith, s .0);
         },
       ),
@@ -115,14 +93,9 @@ same-length : tie.Need-same-length
 same-length c = search needs
 
 returns-2 : tie.Need-returns-2
-returns-2 c = let a = c .before .before .before .before .before .before .before .before .before .before .before .before .before .before .before
-    .before .before .before .before .before .before .args in under-new (a .self) (now (a .store)) (now (a .part)) (now (a .id)) (rw (c .before .before
-    .before .before .before .before .before .before .before .before .before .before .before .before .before .before .before .ring .ensures) at (sym (c
-    .before .before .before .before .before .before .before .before .before .before .before .before .before .before .before .before .can-keep
-    .ensures) ∙ c .before .before .before .before .before .before .before .before .before .before .before .before .before .before .before .if1
-    .taken)) (c .before .before .before .before .before .before .before .before .before .before .before .before .before .before .find .result) (c
-    .before .before .before .before .before .before .before .before .before .before .before .before .before .before .find .ensures) (c .before .before
-    .before .before .before .before .before .before .before .before .before .before .if2 .left) _ _ (c .before .before .enter .ensures)
+returns-2 c = let a = c .before .before .before .before .before .before .before .before .before .before .before .before .before .before .before .before .before .before .before .before .before .before .args in under-new (a .self) (now (a .store)) (now (a .part)) (now (a .id)) (rw (c .before .before .before .before .before .before .before .before .before .before .before .before .before .before .before .before .before .before .ring .ensures) at (sym (c .before .before .before .before .before .before .before .before .before .before .before .before .before .before .before .before .before .can-keep
+    .ensures) ∙ c .before .before .before .before .before .before .before .before .before .before .before .before .before .before .before .before .if1
+    .taken)) (c .before .before .before .before .before .before .before .before .before .before .before .before .before .before .before .find .result) (c .before .before .before .before .before .before .before .before .before .before .before .before .before .before .before .find .ensures) (c .before .before .before .before .before .before .before .before .before .before .before .before .before .if2 .left) _ _ (c .before .before .enter .ensures)
 
 returns-3 : tie.Need-returns-3
 returns-3 c = let a = c .before .before .before .before .before .before .args in kept-not (a .self) (now (a .store)) (now (a .part)) (now (a .id)) (rw
@@ -136,6 +109,7 @@ keep-spec =
     can-keep-requires
     find-requires
     returns
+    mode-of-requires
     slice-aggregate-topics-of
     slice-aggregate-topics-of-2
     topics-of-requires

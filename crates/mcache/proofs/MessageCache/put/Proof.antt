@@ -19,6 +19,9 @@ enum-told-2 c = search needs
 enum-told-3 : tie.Need-enum-told-3
 enum-told-3 c = search needs
 
+mode-of-requires : tie.Need-mode-of-requires
+mode-of-requires c κs = search needs
+
 accept-requires : tie.Need-accept-requires
 accept-requires c κs = search needs
 
@@ -38,30 +41,29 @@ enum-known-m-2 : tie.Need-enum-known-m-2
 enum-known-m-2 c = search needs
 
 sub-put-part : tie.Need-sub-put-part
-sub-put-part c = let a = c .before .before .before .before .before .before .before .before .before .before .before .before .before .before .args in
-    message-inside (now (a .body)) (a .index) _ _ (sym (c .before .before .before .before .message-at .ensures) ∙
+sub-put-part c = let a = c .before .before .before .before .before .before .before .before .before .before .before .before .before .before .before .args in
+    message-inside _ (now (a .body)) (a .index) _ _ (sym (c .before .before .before .before .message-at .ensures) ∙
     (c .before .before .m2 .given .1)) .0
 
 part-put-part-start : tie.Need-part-put-part-start
 part-put-part-start c =
-    message-inside (now (c .before .before .before .before .before .before .before .before .before .before .before .before .before .before .args
+    message-inside _ (now (c .before .before .before .before .before .before .before .before .before .before .before .before .before .before .before .args
     .body))
-    (c .before .before .before .before .before .before .before .before .before .before .before .before .before .before .args .index) _ _
+    (c .before .before .before .before .before .before .before .before .before .before .before .before .before .before .before .args .index) _ _
     (sym (c .before .before .before .before .message-at .ensures) ∙ (c .before .before .m2 .given .1)) .0
 
 part-put-part-end : tie.Need-part-put-part-end
 part-put-part-end c =
-    message-inside (now (c .before .before .before .before .before .before .before .before .before .before .before .before .before .before .args
+    message-inside _ (now (c .before .before .before .before .before .before .before .before .before .before .before .before .before .before .before .args
     .body))
-    (c .before .before .before .before .before .before .before .before .before .before .before .before .before .before .args .index) _ _
+    (c .before .before .before .before .before .before .before .before .before .before .before .before .before .before .before .args .index) _ _
     (sym (c .before .before .before .before .message-at .ensures) ∙ (c .before .before .m2 .given .1)) .1
 
 put-part-requires : tie.Need-put-part-requires
 put-part-requires c κs =
-    let p = c .before .before .before .before .before .before .before .before .before in
-    let s = p .before .before .before .before .before .before .args .self in
-    let g = p .before .before .before .before .before .before .good .0 .1 .1 .1 .1 .1 .1 .1 in
-    tested s (now (p .before .before .before .before .before .before .args .store)) (sym (p .enum-told3 .given .1) ∙ (p .before .before .lent .ensures))
+    let s = c .before .before .before .before .before .before .before .before .before .before .before .before .before .before .before .before .args .self in
+    let g = c .before .before .before .before .before .before .before .before .before .before .before .before .before .before .before .before .good .0 .1 .1 .1 .1 .1 .1 .1 in
+    tested s (now (c .before .before .before .before .before .before .before .before .before .before .before .before .before .before .before .before .args .store)) (sym (c .before .before .before .before .before .before .before .before .before .before .enum-told3 .given .1) ∙ (c .before .before .before .before .before .before .before .before .before .before .before .before .lent .ensures))
     (length-unmapped ℕ (s .generation) 64 (g .0 .1 .0 .1)) (length-unmapped ℕ (s .window) 64 (g .1 .0 .1 .0 .1))
     (length-unmapped ℕ (s .len) 64 (g .1 .1 .0 .1 .0 .1)) (length-unmapped ℕ (s .«id_len») 64 (g .1 .1 .1 .0 .1 .0 .1))
     (length-unmapped ℕ (s .ids) 8192 (g .1 .1 .1 .1 .0 .1 .0 .1))
@@ -88,19 +90,18 @@ same-length-3 : tie.Need-same-length-3
 same-length-3 c = search needs
 
 returns-3 : tie.Need-returns-3
-returns-3 c = let a = c .before .before .before .before .before .before .before .before .before .before .args in
+returns-3 c = let a = c .before .before .before .before .before .before .before .before .before .before .before .args in
     put-done _ _ _ _ _ _ _ (puts-no (a .self) (now (a .store)) _ _ (plan-refused (a .self) (now (a .store)) (a .edition) (now (a .body)) (a .index) _
-    (sym (c .before .before .before .before .enum-told3 .given .1) ∙ (c .before .before .before .before .before .before .lent .ensures))
-    (sym (c .before .c .given .1) ∙ (c .before .before .before .accept .ensures))))
+    (sym (c .before .before .before .before .before .enum-told3 .given .1) ∙ (c .before .before .before .before .before .before .before .lent .ensures)) (c .before .before .before .before .mode-of .ensures) (sym (c .before .c .given .1) ∙ (c .before .before .before .accept .ensures))))
 
 same-length-4 : tie.Need-same-length-4
 same-length-4 c = search needs
 
 returns-4 : tie.Need-returns-4
-returns-4 c = let a = c .before .before .before .before .before .before .before .before .before .before .before .before .before .args in
+returns-4 c = let a = c .before .before .before .before .before .before .before .before .before .before .before .before .before .before .args in
     put-done _ _ _ _ _ _ _ (puts-no (a .self) (now (a .store)) _ _ (plan-missing (a .self) (now (a .store)) (a .edition) (now (a .body)) (a .index) _ (sym
-    (c .before .before .before .before .before .before .before .enum-told3 .given .1) ∙
-    (c .before .before .before .before .before .before .before .before .before .lent .ensures)) (sym
+    (c .before .before .before .before .before .before .before .before .enum-told3 .given .1) ∙
+    (c .before .before .before .before .before .before .before .before .before .before .lent .ensures)) (c .before .before .before .before .before .before .before .mode-of .ensures) (sym
     (c .before .before .before .before .enum-told4 .given .1) ∙ (c .before .before .before .before .before .before .accept .ensures)) (sym
     (c .before .m .given .1) ∙ (c .before .before .before .message-at .ensures))))
 
@@ -108,11 +109,10 @@ same-length-5 : tie.Need-same-length-5
 same-length-5 c = search needs
 
 returns-5 : tie.Need-returns-5
-returns-5 c = let p = c .before .before .before .before .before .before in let a = p .before .before .before .before .before .before .before .before .before .before .before .before .args in
+returns-5 c = let a = c .before .before .before .before .before .before .before .before .before .before .before .before .before .before .before .before .before .before .before .args in
     put-done _ _ _ _ _ _ _ (puts-as (a .self) (now (a .store)) _ _ _ _ _
-    (plan-at (a .self) (now (a .store)) (a .edition) (now (a .body)) (a .index) _ _ (sym (p .before .before .before .before .before .before .enum-told3 .given .1)
-    ∙ (p .before .before .before .before .before .before .before .before .lent .ensures)) (sym (p .before .before .before .enum-told4 .given .1) ∙ (p .before .before .before .before .before .accept .ensures))
-    (sym (p .m2 .given .1) ∙ (p .before .before .message-at .ensures))) (c .before .before .put-part .ensures))
+    (plan-at (a .self) (now (a .store)) (a .edition) (now (a .body)) (a .index) _ _ (sym (c .before .before .before .before .before .before .before .before .before .before .before .before .before .enum-told3 .given .1) ∙ (c .before .before .before .before .before .before .before .before .before .before .before .before .before .before .before .lent .ensures)) (c .before .before .before .before .before .before .before .before .before .before .before .before .mode-of .ensures)
+    (sym (c .before .before .before .before .before .before .before .before .before .enum-told4 .given .1) ∙ (c .before .before .before .before .before .before .before .before .before .before .before .accept .ensures)) (sym (c .before .before .before .before .before .before .m2 .given .1) ∙ (c .before .before .before .before .before .before .before .before .message-at .ensures))) (c .before .before .put-part .ensures))
 
 pub put-spec : {M : Type 1} → statement M
 put-spec =
@@ -122,6 +122,7 @@ put-spec =
     enum-told
     enum-told-2
     enum-told-3
+    mode-of-requires
     accept-requires
     enum-known-c
     enum-told-4

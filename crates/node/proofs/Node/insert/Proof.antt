@@ -30,12 +30,12 @@ enter-requires : tie.Need-enter-requires
 enter-requires c κs = search needs
 
 sub-keep : tie.Need-sub-keep
-sub-keep c = key-long _ (now
+sub-keep c = key-long _ _ (now
     (c .before .before .before .before .before .before .before .before .before .before .before .before .before .before .before .before .args .key))
     (c .before .before .before .before .before .before .before .before .before .before .before .before .before .before .before .before .pre .1 .2)
 
 part-keep-start : tie.Need-part-keep-start
-part-keep-start c = key-long _ (now
+part-keep-start c = key-long _ _ (now
     (c .before .before .before .before .before .before .before .before .before .before .before .before .before .before .before .before .args .key))
     (c .before .before .before .before .before .before .before .before .before .before .before .before .before .before .before .before .pre .1 .2)
 
@@ -56,11 +56,9 @@ same-length-3 c = search needs
 
 returns-2 : tie.Need-returns-2
 returns-2 c = let a =
-    c .before .before .before .before .before .before .before .before .before .before .before .before .before .before .before .before .before .before
-    .before .before .before .before .args in admits-new (a .self) (now (a .seen-store)) (now (a .cache-store)) (a .at)
+    c .before .before .before .before .before .before .before .before .before .before .before .before .before .before .before .before .before .before .before .before .before .before .args in admits-new (a .self) (now (a .seen-store)) (now (a .cache-store)) (a .at)
     (c .before .before .before .before .before .before .before .before .before .before .before .before .before .before .before .clean .result)
-    (c .before .before .before .before .before .before .before .before .before .before .before .before .before .before .before .clean .ensures) (now (a .part)) (now (a .key)) (c .before .before .before .before .before .before .before .before .before .before .before .before .before .before .before .before
-    .before .before .before .before .before .before .pre .1 .2)
+    (c .before .before .before .before .before .before .before .before .before .before .before .before .before .before .before .clean .ensures) (now (a .part)) (now (a .key)) (c .before .before .before .before .before .before .before .before .before .before .before .before .before .before .before .before .before .before .before .before .before .before .pre .1 .2)
     (c .before .before .before .before .before .before .before .before .before .before .before .before .before .holds .result)
     (c .before .before .before .before .before .before .before .before .before .before .before .before .before .holds .ensures)
     (c .before .before .before .before .before .before .before .before .before .before .before .before .if1 .left)
@@ -70,19 +68,13 @@ returns-2 c = let a =
     (a .cache-store)) (a .at)
     (c .before .before .before .before .before .before .before .before .before .before .before .before .before .before .before .clean .result)
     (c .before .before .before .before .before .before .before .before .before .before .before .before .before .before .before .clean .ensures)
-    (c .before .before .before .before .before .before .before .before .before .before .before .before .before .before .before .before .before .before
-    .before .before .before .before .pre .0) (now (a .key))
-    (c .before .before .before .before .before .before .before .before .before .before .before .before .before .before .before .before .before .before
-    .before .before .before .before .pre .1 .1) _ _ _ (c .before .before .before .before .before .before .before .before .before .enter .ensures))
+    (c .before .before .before .before .before .before .before .before .before .before .before .before .before .before .before .before .before .before .before .before .before .before .pre .0) (now (a .key))
+    (c .before .before .before .before .before .before .before .before .before .before .before .before .before .before .before .before .before .before .before .before .before .before .pre .1 .1) _ _ _ (c .before .before .before .before .before .before .before .before .before .enter .ensures))
     (c .before .before .before .before .keep .result .cache) _ (keeps-under (a .self .cache) (now (a .cache-store)) (now (a .part)) (now (a .key))
-    (c .before .before .before .before .before .before .before .before .before .before .before .before .before .before .before .before .before .before
-    .before .before .before .before .pre .0 .kept)
-    (c .before .before .before .before .before .before .before .before .before .before .before .before .before .before .before .before .before .before
-    .before .before .before .before .pre .1 .0)
-    (c .before .before .before .before .before .before .before .before .before .before .before .before .before .before .before .before .before .before
-    .before .before .before .before .pre .1 .2)
-    (c .before .before .before .before .before .before .before .before .before .before .before .before .before .before .before .before .before .before
-    .before .before .before .before .pre .1 .1) _ _ (c .before .before .before .before .keep .ensures)) (c .later2 .result) (c .later2 .ensures)
+    (c .before .before .before .before .before .before .before .before .before .before .before .before .before .before .before .before .before .before .before .before .before .before .pre .0 .kept)
+    (c .before .before .before .before .before .before .before .before .before .before .before .before .before .before .before .before .before .before .before .before .before .before .pre .1 .0)
+    (c .before .before .before .before .before .before .before .before .before .before .before .before .before .before .before .before .before .before .before .before .before .before .pre .1 .2)
+    (c .before .before .before .before .before .before .before .before .before .before .before .before .before .before .before .before .before .before .before .before .before .before .pre .1 .1) _ _ (c .before .before .before .before .keep .ensures)) (c .later2 .result) (c .later2 .ensures)
 
 pub insert-spec : {M : Type 1} → statement M
 insert-spec =

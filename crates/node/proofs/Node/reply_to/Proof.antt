@@ -7,11 +7,14 @@ use native.Mathlib.Omega.{arith}
 use Rattle.mcache.specs.StateLaws.{kept-sound}
 use Rattle.node.specs.PartsLaws.{parts-none, parts-fewer}
 use Rattle.node.specs.AskLaws.{reply-fits}
-use Rattle.node.proofs.Asking.{named-room, named-few, first-is}
+use Rattle.node.proofs.Asking.{few-as, named-room, named-few, first-is}
 use Rattle.node.proofs.Serving.{kept-size, rest-is, messages-are, reply-none, reply-short, reply-put}
 use borrow.Author.Needs.{length-unmapped, needs}
 use Rattle.node.proofs.Node.reply_to.Statement.{statement}
 use Rattle.node.proofs.Node.reply_to.Tie as tie
+
+mode-of-requires : tie.Need-mode-of-requires
+mode-of-requires c κs = search needs
 
 slice-aggregate-parts-at : tie.Need-slice-aggregate-parts-at
 slice-aggregate-parts-at c = search needs
@@ -21,8 +24,8 @@ slice-aggregate-parts-at-2 c = search needs
 
 parts-at-requires : tie.Need-parts-at-requires
 parts-at-requires c κs =
-    let s = c .before .before .before .before .before .before in
-    ((omega arith, omega arith), (parts-none _ _, named-room (3 ∷ 2 ∷ 1 ∷ []) (s .args .body .now) (s .pre .1 .0)))
+    let s = c .before .before .before .before .before .before .before in
+    ((omega arith, omega arith), (parts-none _ _, named-room (c .before .before .mode-of .ensures) (3 ∷ 2 ∷ 1 ∷ []) (s .args .body .now) (s .pre .1 .0)))
 
 slice-aggregate-first-mentions : tie.Need-slice-aggregate-first-mentions
 slice-aggregate-first-mentions c = search needs
@@ -40,27 +43,28 @@ slice-aggregate-not-declined-2 : tie.Need-slice-aggregate-not-declined-2
 slice-aggregate-not-declined-2 c = search needs
 
 not-declined-requires : tie.Need-not-declined-requires
-not-declined-requires c κs = search needs
+not-declined-requires c κs =
+    let s = c .before .before .before .before .before .before .before .before .before .before .before .before .before .before .before in
+    let m = c .before .before .before .before .before .before .before .parts-at .ensures .1 .room in
+    let n = c .before .before .before .first-mentions .ensures .1 .1 in
+    (c .before .before .before .first-mentions .ensures .1 .0, (omega arith, few-as (sym (c .before .before .before .before .before .before .before .before .before .before .mode-of .ensures)) _ (s .args .unwanted .now) (s .pre .1 .1)))
 
 ring-requires : tie.Need-ring-requires
 ring-requires c κs = search needs
 
 slice-aggregate-cached : tie.Need-slice-aggregate-cached
 slice-aggregate-cached c =
-    let s = c .before .before .before .before .before .before .before .before .before .before .before .before .before
-    .before .before .before .before .before .before .before .before .before in sym (length-unmapped ℕ (s .args .self
+    let s = c .before .before .before .before .before .before .before .before .before .before .before .before .before .before .before .before .before .before .before .before .before .before .before in sym (length-unmapped ℕ (s .args .self
     .cache .len) 64 (s .good .0 .1 .1 .1 .1 .1 .1 .0 .1 .1 .1 .1 .1 .1 .1 .1 .1 .0 .1 .0 .1))
 
 slice-aggregate-cached-2 : tie.Need-slice-aggregate-cached-2
 slice-aggregate-cached-2 c =
-    let s = c .before .before .before .before .before .before .before .before .before .before .before .before .before
-    .before .before .before .before .before .before .before .before .before .before in sym (length-unmapped ℕ (s .args
+    let s = c .before .before .before .before .before .before .before .before .before .before .before .before .before .before .before .before .before .before .before .before .before .before .before .before in sym (length-unmapped ℕ (s .args
     .self .cache .«id_len») 64 (s .good .0 .1 .1 .1 .1 .1 .1 .0 .1 .1 .1 .1 .1 .1 .1 .1 .1 .1 .0 .1 .0 .1))
 
 slice-aggregate-cached-3 : tie.Need-slice-aggregate-cached-3
 slice-aggregate-cached-3 c =
-    let s = c .before .before .before .before .before .before .before .before .before .before .before .before .before
-    .before .before .before .before .before .before .before .before .before .before .before in sym (length-unmapped ℕ
+    let s = c .before .before .before .before .before .before .before .before .before .before .before .before .before .before .before .before .before .before .before .before .before .before .before .before .before in sym (length-unmapped ℕ
     (s .args .self .cache .ids) 8192 (s .good .0 .1 .1 .1 .1 .1 .1 .0 .1 .1 .1 .1 .1 .1 .1 .1 .1 .1 .1 .0 .1 .0 .1))
 
 slice-aggregate-cached-4 : tie.Need-slice-aggregate-cached-4
@@ -73,8 +77,7 @@ cached-requires : tie.Need-cached-requires
 cached-requires c κs =
     let r = c .before .before .before .before .before .before .before .before in
     let d = r .before .before .before in
-    let s = d .before .before .before .before .before .before .before .before .before .before .before .before .before
-    .before .before in
+    let s = d .before .before .before .before .before .before .before .before .before .before .before .before .before .before .before .before in
     let a = s .args in
     let k = s .pre .0 in
     let m = d .before .before .before .before .before .before .before .before .parts-at .ensures .1 .room in
@@ -89,13 +92,11 @@ returns : tie.Need-returns
 returns c =
     let r = c .before .before .before .before .before .before .before .before .before .before .before in
     let d = r .before .before .before in
-    let s = d .before .before .before .before .before .before .before .before .before .before .before .before .before
-    .before .before in
+    let s = d .before .before .before .before .before .before .before .before .before .before .before .before .before .before .before .before in
     let a = s .args in
-    let f = first-is (3 ∷ 2 ∷ 1 ∷ []) (a .body .now) (s .pre .1 .0) _ _ _ (d .before .before .before .before .before
-    .before .before .before .parts-at .ensures .0) _ _
+    let f = first-is (c .before .before .before .before .before .before .before .before .before .before .before .before .before .before .before .before .before .before .before .before .before .before .before .before .before .mode-of .ensures) (3 ∷ 2 ∷ 1 ∷ []) (a .body .now) (s .pre .1 .0) _ _ _ (d .before .before .before .before .before .before .before .before .parts-at .ensures .0) _ _
     (d .before .before .before .before .first-mentions .ensures .0) in
-    let x = rest-is (a .body .now) (a .unwanted .now) _ _ _ _ f (d .not-declined .ensures .0) in
+    let x = rest-is (c .before .before .before .before .before .before .before .before .before .before .before .before .before .before .before .before .before .before .before .before .before .before .before .before .before .mode-of .ensures) (a .body .now) (a .unwanted .now) _ _ _ _ f (d .not-declined .ensures .0) in
     let q = messages-are (a .self .cache) (a .cache-store .now) (a .body .now) (a .unwanted .now) _ _ _ _ x
     (rw (r .ring .ensures) at (c .before .before .cached .ensures .0)) in
     reply-none _ (a .cache-store .now) _ _ (a .out .now) q (c .if1 .taken)
@@ -110,8 +111,7 @@ parts-that-fit-requires : tie.Need-parts-that-fit-requires
 parts-that-fit-requires c κs =
     let r = c .before .before .before .before .before .before .before .before .before .before .before .before .before in
     let d = r .before .before .before in
-    let s = d .before .before .before .before .before .before .before .before .before .before .before .before .before
-    .before .before in
+    let s = d .before .before .before .before .before .before .before .before .before .before .before .before .before .before .before .before in
     let a = s .args in (
       (rw (r .ring .ensures) at (c .before .before .before .before .cached .ensures .1 .0)) (a .cache-store .now) (s
           .pre .0 .rows .room),
@@ -126,11 +126,9 @@ slice-aggregate-emit-parts-2 c = search needs
 
 emit-parts-requires : tie.Need-emit-parts-requires
 emit-parts-requires c κs =
-    let r = c .before .before .before .before .before .before .before .before .before .before .before .before .before
-    .before .before .before .before in
+    let r = c .before .before .before .before .before .before .before .before .before .before .before .before .before .before .before .before .before in
     let d = r .before .before .before in
-    let s = d .before .before .before .before .before .before .before .before .before .before .before .before .before
-    .before .before in
+    let s = d .before .before .before .before .before .before .before .before .before .before .before .before .before .before .before .before in
     let a = s .args in
     let m = (rw (r .ring .ensures) at (c .before .before .before .before .before .before .before .before .cached
     .ensures .1 .0)) (a .cache-store .now) (s .pre .0 .rows .room) in (
@@ -148,22 +146,16 @@ emit-parts-requires c κs =
 
 returns-2 : tie.Need-returns-2
 returns-2 c =
-    let r = c .before .before .before .before .before .before .before .before .before .before .before .before .before
-    .before .before .before .before .before .before in
+    let r = c .before .before .before .before .before .before .before .before .before .before .before .before .before .before .before .before .before .before .before in
     let d = r .before .before .before in
-    let s = d .before .before .before .before .before .before .before .before .before .before .before .before .before
-    .before .before in
+    let s = d .before .before .before .before .before .before .before .before .before .before .before .before .before .before .before .before in
     let a = s .args in
-    let f = first-is (3 ∷ 2 ∷ 1 ∷ []) (a .body .now) (s .pre .1 .0) _ _ _ (d .before .before .before .before .before
-    .before .before .before .parts-at .ensures .0) _ _
+    let f = first-is (c .before .before .before .before .before .before .before .before .before .before .before .before .before .before .before .before .before .before .before .before .before .before .before .before .before .before .before .before .before .before .before .before .before .mode-of .ensures) (3 ∷ 2 ∷ 1 ∷ []) (a .body .now) (s .pre .1 .0) _ _ _ (d .before .before .before .before .before .before .before .before .parts-at .ensures .0) _ _
     (d .before .before .before .before .first-mentions .ensures .0) in
-    let x = rest-is (a .body .now) (a .unwanted .now) _ _ _ _ f (d .not-declined .ensures .0) in
+    let x = rest-is (c .before .before .before .before .before .before .before .before .before .before .before .before .before .before .before .before .before .before .before .before .before .before .before .before .before .before .before .before .before .before .before .before .before .mode-of .ensures) (a .body .now) (a .unwanted .now) _ _ _ _ f (d .not-declined .ensures .0) in
     let q = messages-are (a .self .cache) (a .cache-store .now) (a .body .now) (a .unwanted .now) _ _ _ _ x
-    (rw (r .ring .ensures) at (c .before .before .before .before .before .before .before .before .before .before
-    .cached .ensures .0)) in
-    reply-short _ (a .cache-store .now) _ _ (a .out .now) q (c .before .before .before .before .before .before .before
-    .before .if1 .left) _ _ (c .before .before .before .before .before .before .before .reply-room .ensures) (c .before
-    .before .before .before .before .parts-that-fit .ensures .0)
+    (rw (r .ring .ensures) at (c .before .before .before .before .before .before .before .before .before .before .cached .ensures .0)) in
+    reply-short _ (a .cache-store .now) _ _ (a .out .now) q (c .before .before .before .before .before .before .before .before .if1 .left) _ _ (c .before .before .before .before .before .before .before .reply-room .ensures) (c .before .before .before .before .before .parts-that-fit .ensures .0)
     (c .before .before .before .before .if2 .taken) _ _ _ (c .before .emit-parts .ensures)
 
 slice-aggregate-emit-parts-3 : tie.Need-slice-aggregate-emit-parts-3
@@ -171,14 +163,11 @@ slice-aggregate-emit-parts-3 c = search needs
 
 emit-parts-requires-2 : tie.Need-emit-parts-requires-2
 emit-parts-requires-2 c κs =
-    let r = c .before .before .before .before .before .before .before .before .before .before .before .before .before
-    .before .before .before .before in
+    let r = c .before .before .before .before .before .before .before .before .before .before .before .before .before .before .before .before .before in
     let d = r .before .before .before in
-    let s = d .before .before .before .before .before .before .before .before .before .before .before .before .before
-    .before .before in
+    let s = d .before .before .before .before .before .before .before .before .before .before .before .before .before .before .before .before in
     let a = s .args in
-    let n = named-few (3 ∷ 2 ∷ 1 ∷ []) (a .body .now) (s .pre .1 .0) _ _ _ (d .before .before .before .before .before
-    .before .before .before .parts-at .ensures .0) in
+    let n = named-few (c .before .before .before .before .before .before .before .before .before .before .before .before .before .before .before .before .before .before .before .before .before .before .before .before .before .before .before .before .before .before .before .mode-of .ensures) (3 ∷ 2 ∷ 1 ∷ []) (a .body .now) (s .pre .1 .0) _ _ _ (d .before .before .before .before .before .before .before .before .parts-at .ensures .0) in
     let o = d .before .before .before .before .first-mentions .ensures .1 .1 in
     let u = d .not-declined .ensures .1 .1 in
     let v = c .before .before .before .before .before .before .before .before .cached .ensures .1 .1 in
@@ -194,14 +183,13 @@ emit-parts-requires-2 c κs =
     )
 
 -- those written are at most those cached, which are at most those that remain, and these at most those named
-sub-t23 : tie.Need-sub-t23
-sub-t23 c =
+sub-t25 : tie.Need-sub-t25
+sub-t25 c =
     let p = c .before .before .before .before .before .before in
     let g = p .before .before .before .before .before in
     let l = p .parts-that-fit .ensures .1 in
     let v = g .cached .ensures .1 .1 in
-    let u = g .before .before .before .before .before .before .before .before .before .before .before .before
-    .not-declined .ensures .1 .1 in
+    let u = g .before .before .before .before .before .before .before .before .before .before .before .before .not-declined .ensures .1 .1 in
     omega arith
 
 same-length : tie.Need-same-length
@@ -209,29 +197,24 @@ same-length c = search needs
 
 returns-3 : tie.Need-returns-3
 returns-3 c =
-    let r = c .before .before .before .before .before .before .before .before .before .before .before .before .before
-    .before .before .before .before .before .before .before in
+    let r = c .before .before .before .before .before .before .before .before .before .before .before .before .before .before .before .before .before .before .before .before in
     let d = r .before .before .before in
-    let s = d .before .before .before .before .before .before .before .before .before .before .before .before .before
-    .before .before in
+    let s = d .before .before .before .before .before .before .before .before .before .before .before .before .before .before .before .before in
     let a = s .args in
-    let f = first-is (3 ∷ 2 ∷ 1 ∷ []) (a .body .now) (s .pre .1 .0) _ _ _ (d .before .before .before .before .before
-    .before .before .before .parts-at .ensures .0) _ _
+    let f = first-is (c .before .before .before .before .before .before .before .before .before .before .before .before .before .before .before .before .before .before .before .before .before .before .before .before .before .before .before .before .before .before .before .before .before .before .mode-of .ensures) (3 ∷ 2 ∷ 1 ∷ []) (a .body .now) (s .pre .1 .0) _ _ _ (d .before .before .before .before .before .before .before .before .parts-at .ensures .0) _ _
     (d .before .before .before .before .first-mentions .ensures .0) in
-    let x = rest-is (a .body .now) (a .unwanted .now) _ _ _ _ f (d .not-declined .ensures .0) in
+    let x = rest-is (c .before .before .before .before .before .before .before .before .before .before .before .before .before .before .before .before .before .before .before .before .before .before .before .before .before .before .before .before .before .before .before .before .before .before .mode-of .ensures) (a .body .now) (a .unwanted .now) _ _ _ _ f (d .not-declined .ensures .0) in
     let q = messages-are (a .self .cache) (a .cache-store .now) (a .body .now) (a .unwanted .now) _ _ _ _ x
-    (rw (r .ring .ensures) at (c .before .before .before .before .before .before .before .before .before .before
-    .before .cached .ensures .0)) in
-    reply-put _ (a .cache-store .now) _ _ (a .out .now) q (c .before .before .before .before .before .before .before
-    .before .before .if1 .left) _ _ (c .before .before .before .before .before .before .before .before .reply-room
+    (rw (r .ring .ensures) at (c .before .before .before .before .before .before .before .before .before .before .before .cached .ensures .0)) in
+    reply-put _ (a .cache-store .now) _ _ (a .out .now) q (c .before .before .before .before .before .before .before .before .before .if1 .left) _ _ (c .before .before .before .before .before .before .before .before .reply-room
     .ensures) (c .before .before .before .before .before .before .parts-that-fit .ensures .0)
-    (c .before .before .before .before .before .if2 .left) (c .before .before .before .before .before .before
-    .parts-that-fit .ensures .1) _ _ (c .before .before .emit-parts2 .ensures)
+    (c .before .before .before .before .before .if2 .left) (c .before .before .before .before .before .before .parts-that-fit .ensures .1) _ _ (c .before .before .emit-parts2 .ensures)
 
 pub reply-to-spec : {M : Type 1} → statement M
 reply-to-spec =
     tie.close
     (tie.spec
+    mode-of-requires
     slice-aggregate-parts-at
     slice-aggregate-parts-at-2
     parts-at-requires
@@ -258,6 +241,6 @@ reply-to-spec =
     returns-2
     slice-aggregate-emit-parts-3
     emit-parts-requires-2
-    sub-t23
+    sub-t25
     same-length
     returns-3)

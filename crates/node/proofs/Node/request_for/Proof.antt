@@ -10,6 +10,9 @@ use Rattle.node.proofs.Asking.{named-room, first-is, first-few, ask-non
 use Rattle.node.proofs.Node.request_for.Statement.{statement}
 use Rattle.node.proofs.Node.request_for.Tie as tie
 
+mode-of-requires : tie.Need-mode-of-requires
+mode-of-requires c κs = search needs
+
 slice-aggregate-parts-at : tie.Need-slice-aggregate-parts-at
 slice-aggregate-parts-at c = search needs
 
@@ -17,12 +20,12 @@ slice-aggregate-parts-at-2 : tie.Need-slice-aggregate-parts-at-2
 slice-aggregate-parts-at-2 c = search needs
 
 parts-at-requires : tie.Need-parts-at-requires
-parts-at-requires c κs = let a = (c .before .before .before .before .before .args) in
-    let few = c .before .before .before .before .before .pre .1 in (
+parts-at-requires c κs = let a = (c .before .before .before .before .before .before .args) in
+    let few = c .before .before .before .before .before .before .pre .1 in (
       (omega arith, omega arith),
       (
         parts-none _ _,
-        named-room (3 ∷ 1 ∷ 2 ∷ []) (a .body .now)
+        named-room (c .before .before .mode-of .ensures) (3 ∷ 1 ∷ 2 ∷ []) (a .body .now)
             (few .1),
       ),
     )
@@ -41,10 +44,8 @@ ring-requires c κs = search needs
 
 slice-aggregate-unseen : tie.Need-slice-aggregate-unseen
 slice-aggregate-unseen c = sym (length-unmapped ℕ
-    (c .before .before .before .before .before .before .before .before .before .before .before .before .before .before
-    .before .args .self .seen .len)
-    256 (c .before .before .before .before .before .before .before .before .before .before .before .before .before
-    .before .before .good .0 .1 .1 .1
+    (c .before .before .before .before .before .before .before .before .before .before .before .before .before .before .before .before .args .self .seen .len)
+    256 (c .before .before .before .before .before .before .before .before .before .before .before .before .before .before .before .before .good .0 .1 .1 .1
     .1 .1 .0 .1 .1 .1 .1 .1 .0 .1 .0 .1))
 
 slice-aggregate-unseen-2 : tie.Need-slice-aggregate-unseen-2
@@ -54,30 +55,23 @@ slice-aggregate-unseen-3 : tie.Need-slice-aggregate-unseen-3
 slice-aggregate-unseen-3 c = search needs
 
 unseen-requires : tie.Need-unseen-requires
-unseen-requires c κs = let p = (c .before .before .before .before .before .before .before .before .before .before
-    .before .parts-at .ensures .1 .room)
+unseen-requires c κs = let p = (c .before .before .before .before .before .before .before .before .before .before .before .parts-at .ensures .1 .room)
     in let q = (c .before .before .before .before .before .before .before .first-mentions .ensures .1 .1) in (
       rw
           (c .before .before .before .before .ring .ensures)
-          (c .before .before .before .before .before .before .before .before .before .before .before .before .before
-          .before .before .before .before .pre
+          (c .before .before .before .before .before .before .before .before .before .before .before .before .before .before .before .before .before .before .pre
           .0),
       ((c .before .before .before .before .before .before .before .first-mentions .ensures .1 .0), omega arith),
     )
 
 returns : tie.Need-returns
-returns c = let a = (c .before .before .before .before .before .before .before .before .before .before .before .before
-    .before .before .before .before
-    .before .before .before .before .args) in
-    let few = c .before .before .before .before .before .before .before .before .before .before .before .before .before
-    .before .before .before .before .before .before .before .pre .1 in
-    let f = first-is (3 ∷ 1 ∷ 2 ∷ []) (a .body .now) (few .1) _ _ _
-    (c .before .before .before .before .before .before .before .before .before .before .before .before .before .before
-    .parts-at .ensures .0) _ _
+returns c = let a = (c .before .before .before .before .before .before .before .before .before .before .before .before .before .before .before .before .before .before .before .before .before .args) in
+    let few = c .before .before .before .before .before .before .before .before .before .before .before .before .before .before .before .before .before .before .before .before .before .pre .1 in
+    let f = first-is (c .before .before .before .before .before .before .before .before .before .before .before .before .before .before .before .before .before .mode-of .ensures) (3 ∷ 1 ∷ 2 ∷ []) (a .body .now) (few .1) _ _ _
+    (c .before .before .before .before .before .before .before .before .before .before .before .before .before .before .parts-at .ensures .0) _ _
     (c .before .before .before .before .before .before .before .before .before .before .first-mentions .ensures .0) in
     ask-none (a .self)
-    (a .seen-store .now) (a .body .now) (a .out .now) _ _ _ _ f (rw (c .before .before .before .before .before .before
-    .before .ring .ensures) at
+    (a .seen-store .now) (a .body .now) (a .out .now) _ _ _ _ f (rw (c .before .before .before .before .before .before .before .ring .ensures) at
     (c .before .before .unseen .ensures .0)) (c .if1 .taken)
 
 slice-aggregate-emit-request : tie.Need-slice-aggregate-emit-request
@@ -88,16 +82,11 @@ slice-aggregate-emit-request-2 c = search needs
 
 emit-request-requires : tie.Need-emit-request-requires
 emit-request-requires c κs = let a =
-    (c .before .before .before .before .before .before .before .before .before .before .before .before .before .before
-    .before .before .before .before
-    .before .before .before .before .args) in
-    let few = c .before .before .before .before .before .before .before .before .before .before .before .before .before
-    .before .before .before .before .before .before .before .before .before .pre .1 in
-    let m = first-few (3 ∷ 1 ∷ 2 ∷ []) (a .body .now) (few .1) _ _ _
-    (c .before .before .before .before .before .before .before .before .before .before .before .before .before .before
-    .before .before .parts-at
-    .ensures .0) _ _ (c .before .before .before .before .before .before .before .before .before .before .before .before
-    .first-mentions .ensures .1
+    (c .before .before .before .before .before .before .before .before .before .before .before .before .before .before .before .before .before .before .before .before .before .before .before .args) in
+    let few = c .before .before .before .before .before .before .before .before .before .before .before .before .before .before .before .before .before .before .before .before .before .before .before .pre .1 in
+    let m = first-few (c .before .before .before .before .before .before .before .before .before .before .before .before .before .before .before .before .before .before .before .mode-of .ensures) (3 ∷ 1 ∷ 2 ∷ []) (a .body .now) (few .1) _ _ _
+    (c .before .before .before .before .before .before .before .before .before .before .before .before .before .before .before .before .parts-at
+    .ensures .0) _ _ (c .before .before .before .before .before .before .before .before .before .before .before .before .first-mentions .ensures .1
     .1) (c .before .before .before .before .unseen .ensures .1 .1) in (
       (c .before .before .before .before .unseen .ensures .1 .0),
       request-fits
@@ -106,22 +95,15 @@ emit-request-requires c κs = let a =
 
 returns-2 : tie.Need-returns-2
 returns-2 c = let a =
-    (c .before .before .before .before .before .before .before .before .before .before .before .before .before .before
-    .before .before .before .before
-    .before .before .before .before .before .before .before .args) in
-    let few = c .before .before .before .before .before .before .before .before .before .before .before .before .before
-    .before .before .before .before .before .before .before .before .before .before .before .before .pre .1 in
-    let f = first-is (3 ∷ 1 ∷ 2 ∷ []) (a .body .now) (few .1) _ _ _
-    (c .before .before .before .before .before .before .before .before .before .before .before .before .before .before
-    .before .before .before .before
-    .before .parts-at .ensures .0) _ _
-    (c .before .before .before .before .before .before .before .before .before .before .before .before .before .before
-    .before .first-mentions
+    (c .before .before .before .before .before .before .before .before .before .before .before .before .before .before .before .before .before .before .before .before .before .before .before .before .before .before .args) in
+    let few = c .before .before .before .before .before .before .before .before .before .before .before .before .before .before .before .before .before .before .before .before .before .before .before .before .before .before .pre .1 in
+    let f = first-is (c .before .before .before .before .before .before .before .before .before .before .before .before .before .before .before .before .before .before .before .before .before .before .mode-of .ensures) (3 ∷ 1 ∷ 2 ∷ []) (a .body .now) (few .1) _ _ _
+    (c .before .before .before .before .before .before .before .before .before .before .before .before .before .before .before .before .before .before .before .parts-at .ensures .0) _ _
+    (c .before .before .before .before .before .before .before .before .before .before .before .before .before .before .before .first-mentions
     .ensures .0) in ask-short (a .self) (a .seen-store .now) (a .body .now) (a .out .now) _ _ _ _ f (rw
     (c .before .before .before .before .before .before .before .before .before .before .before .before .ring .ensures)
     at
-    (c .before .before .before .before .before .before .before .unseen .ensures .0)) (c .before .before .before .before
-    .before .if1 .left) _ _ _
+    (c .before .before .before .before .before .before .before .unseen .ensures .0)) (c .before .before .before .before .before .if1 .left) _ _ _
     (c .before .before .emit-request .ensures) (c .if2 .taken)
 
 slice-aggregate-emit-request-3 : tie.Need-slice-aggregate-emit-request-3
@@ -129,19 +111,11 @@ slice-aggregate-emit-request-3 c = search needs
 
 emit-request-requires-2 : tie.Need-emit-request-requires-2
 emit-request-requires-2 c κs = let a =
-    (c .before .before .before .before .before .before .before .before .before .before .before .before .before .before
-    .before .before .before .before
-    .before .before .before .before .before .before .before .before .before .args) in
-    let few = c .before .before .before .before .before .before .before .before .before .before .before .before .before
-    .before .before .before .before .before .before .before .before .before .before .before .before .before .before
-    .pre .1 in
-    let m = first-few (3 ∷ 1 ∷ 2 ∷ []) (a .body .now)
-    (few .1) _ _ _ (c .before .before .before .before .before .before .before .before .before .before .before .before
-    .before .before .before .before
-    .before .before .before .before .before .parts-at .ensures .0) _ _
-    (c .before .before .before .before .before .before .before .before .before .before .before .before .before .before
-    .before .before .before
-    .first-mentions .ensures .1 .1) (c .before .before .before .before .before .before .before .before .before .unseen
+    (c .before .before .before .before .before .before .before .before .before .before .before .before .before .before .before .before .before .before .before .before .before .before .before .before .before .before .before .before .args) in
+    let few = c .before .before .before .before .before .before .before .before .before .before .before .before .before .before .before .before .before .before .before .before .before .before .before .before .before .before .before .before .pre .1 in
+    let m = first-few (c .before .before .before .before .before .before .before .before .before .before .before .before .before .before .before .before .before .before .before .before .before .before .before .before .mode-of .ensures) (3 ∷ 1 ∷ 2 ∷ []) (a .body .now)
+    (few .1) _ _ _ (c .before .before .before .before .before .before .before .before .before .before .before .before .before .before .before .before .before .before .before .before .before .parts-at .ensures .0) _ _
+    (c .before .before .before .before .before .before .before .before .before .before .before .before .before .before .before .before .before .first-mentions .ensures .1 .1) (c .before .before .before .before .before .before .before .before .before .unseen
     .ensures .1 .1) in (
       (c .before .before .before .before .before .before .before .before .before .unseen .ensures .1 .0),
       request-fits (a .body .now) _ _
@@ -153,34 +127,24 @@ same-length c = search needs
 
 returns-3 : tie.Need-returns-3
 returns-3 c = let a =
-    (c .before .before .before .before .before .before .before .before .before .before .before .before .before .before
-    .before .before .before .before
-    .before .before .before .before .before .before .before .before .before .before .before .before .args) in
-    let few = c .before .before .before .before .before .before .before .before .before .before .before .before .before
-    .before .before .before .before .before .before .before .before .before .before .before .before .before .before
-    .before .before .before .pre .1 in
-    let f = first-is (3 ∷ 1 ∷ 2 ∷ [])
+    (c .before .before .before .before .before .before .before .before .before .before .before .before .before .before .before .before .before .before .before .before .before .before .before .before .before .before .before .before .before .before .before .args) in
+    let few = c .before .before .before .before .before .before .before .before .before .before .before .before .before .before .before .before .before .before .before .before .before .before .before .before .before .before .before .before .before .before .before .pre .1 in
+    let f = first-is (c .before .before .before .before .before .before .before .before .before .before .before .before .before .before .before .before .before .before .before .before .before .before .before .before .before .before .before .mode-of .ensures) (3 ∷ 1 ∷ 2 ∷ [])
     (a .body .now) (few .1) _ _ _
-    (c .before .before .before .before .before .before .before .before .before .before .before .before .before .before
-    .before .before .before .before
-    .before .before .before .before .before .before .parts-at .ensures .0) _ _
-    (c .before .before .before .before .before .before .before .before .before .before .before .before .before .before
-    .before .before .before .before
-    .before .before .first-mentions .ensures .0) in ask-put (a .self) (a .seen-store .now) (a .body .now) (a .out .now)
+    (c .before .before .before .before .before .before .before .before .before .before .before .before .before .before .before .before .before .before .before .before .before .before .before .before .parts-at .ensures .0) _ _
+    (c .before .before .before .before .before .before .before .before .before .before .before .before .before .before .before .before .before .before .before .before .first-mentions .ensures .0) in ask-put (a .self) (a .seen-store .now) (a .body .now) (a .out .now)
     _ _ _ _ f (rw
-    (c .before .before .before .before .before .before .before .before .before .before .before .before .before .before
-    .before .before .before .ring
-    .ensures) at (c .before .before .before .before .before .before .before .before .before .before .before .before
-    .unseen .ensures .0))
+    (c .before .before .before .before .before .before .before .before .before .before .before .before .before .before .before .before .before .ring
+    .ensures) at (c .before .before .before .before .before .before .before .before .before .before .before .before .unseen .ensures .0))
     (c .before .before .before .before .before .before .before .before .before .before .if1 .left) _ _ _
-    (c .before .before .before .before .before .before .before .emit-request .ensures) (c .before .before .before
-    .before .before .if2 .left) _ _
+    (c .before .before .before .before .before .before .before .emit-request .ensures) (c .before .before .before .before .before .if2 .left) _ _
     (c .before .before .emit-request2 .ensures)
 
 pub request-for-spec : {M : Type 1} → statement M
 request-for-spec =
     tie.close
     (tie.spec
+    mode-of-requires
     slice-aggregate-parts-at
     slice-aggregate-parts-at-2
     parts-at-requires

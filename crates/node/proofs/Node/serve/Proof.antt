@@ -5,6 +5,7 @@ use borrow.Author.Needs.{length-unmapped, needs}
 use Rattle.basis.specs.Dialect.{spoken}
 use Rattle.node.specs.PartsLaws.{path-accepted}
 use Rattle.node.proofs.Answers.{tested}
+use Rattle.node.proofs.Asking.{few-as}
 use Rattle.node.proofs.Serving.{serves-faulty, serves-refused, serves-done}
 use Rattle.node.proofs.Node.serve.Statement.{statement}
 use Rattle.node.proofs.Node.serve.Tie as tie
@@ -18,6 +19,9 @@ enum-known-lent c = search needs
 enum-told : tie.Need-enum-told
 enum-told c = search needs
 
+mode-of-requires : tie.Need-mode-of-requires
+mode-of-requires c κs = search needs
+
 accept-requires : tie.Need-accept-requires
 accept-requires c κs = search needs
 
@@ -29,11 +33,10 @@ enum-told-2 c = search needs
 
 serve-taken-requires : tie.Need-serve-taken-requires
 serve-taken-requires c κs =
-    let s = c .before .before .before .before .before .before .before .before .before .before .before .before in
+    let s = c .before .before .before .before .before .before .before .before .before .before .before .before .before in
     let a = s .args in
     let g = s .good .0 in
-    let r = tested (a .self) (a .seen-store .now) (a .cache-store .now) (sym (c .before .before .before .before
-    .enum-told .given .1) ∙ c .before .before .before .before .before .before .lent .ensures)
+    let r = tested (a .self) (a .seen-store .now) (a .cache-store .now) (sym (c .before .before .before .before .before .enum-told .given .1) ∙ c .before .before .before .before .before .before .before .lent .ensures)
     (length-unmapped ℕ (a .self .seen .expiry) 256 (g .1 .1 .1 .1 .1 .0 .1 .1 .1 .1 .0 .1 .0 .1))
     (length-unmapped ℕ (a .self .seen .len) 256 (g .1 .1 .1 .1 .1 .0 .1 .1 .1 .1 .1 .0 .1 .0 .1))
     (length-unmapped ℕ (a .self .cache .generation) 64 (g .1 .1 .1 .1 .1 .1 .0 .1 .1 .1 .1 .1 .1 .1 .0 .1 .0 .1))
@@ -48,7 +51,7 @@ serve-taken-requires c κs =
     (length-unmapped ℕ (a .self .cache .«topic_len») 256 (g .1 .1 .1 .1 .1 .1 .0 .1 .1 .1 .1 .1 .1 .1 .1 .1 .1 .1 .1 .1
     .1 .0 .1 .0 .1)) in
     let e = sym (c .before .before .before .accept .ensures) ∙ c .before .enum-told2 .given .1 in
-    (r .kept, path-accepted (spoken (a .edition)) (a .body .now) e .1)
+    (r .kept, few-as (c .before .before .before .before .mode-of .ensures) _ (a .body .now) (path-accepted (spoken (c .before .before .before .before .mode-of .result) (a .edition)) (a .body .now) e .1))
 
 returns : tie.Need-returns
 returns c =
@@ -60,11 +63,11 @@ returns c =
 
 returns-2 : tie.Need-returns-2
 returns-2 c =
-    let a = c .before .before .before .before .before .before .before .before .before .before .before .before .args in
+    let a = c .before .before .before .before .before .before .before .before .before .before .before .before .before .args in
     let r = serves-refused (a .self) (a .seen-store .now) (a .cache-store .now) (a .edition) (a .body .now) (a
     .unwanted .now) (a .out .now) _
-    (c .before .before .before .before .before .before .lent .ensures) (c .before .before .before .before .enum-told
-    .given .1) _ (c .before .before .before .accept .ensures) _ (c .before .tested .given .1) in
+    (c .before .before .before .before .before .before .before .lent .ensures) (c .before .before .before .before .before .enum-told
+    .given .1) (c .before .before .before .before .mode-of .ensures) _ (c .before .before .before .accept .ensures) _ (c .before .tested .given .1) in
     record { answer = r .0; node = refl; buffer = r .1 }
 
 same-length : tie.Need-same-length
@@ -72,13 +75,10 @@ same-length c = search needs
 
 returns-3 : tie.Need-returns-3
 returns-3 c =
-    let a = c .before .before .before .before .before .before .before .before .before .before .before .before .before
-    .before .before .args in
+    let a = c .before .before .before .before .before .before .before .before .before .before .before .before .before .before .before .before .args in
     let r = serves-done (a .self) (a .seen-store .now) (a .cache-store .now) (a .edition) (a .body .now) (a .unwanted
     .now) (a .out .now) _
-    (c .before .before .before .before .before .before .before .before .before .lent .ensures) (c .before .before
-    .before .before .before .before .before .enum-told .given .1) _ (c .before .before .before .before .before .before
-    .accept .ensures) (c .before .before .before .before .enum-told2 .given .1) _ _ (c .before .before .serve-taken
+    (c .before .before .before .before .before .before .before .before .before .before .lent .ensures) (c .before .before .before .before .before .before .before .before .enum-told .given .1) (c .before .before .before .before .before .before .before .mode-of .ensures) _ (c .before .before .before .before .before .before .accept .ensures) (c .before .before .before .before .enum-told2 .given .1) _ _ (c .before .before .serve-taken
     .ensures) in
     record { answer = r .0; node = refl; buffer = r .1 }
 
@@ -89,6 +89,7 @@ serve-spec =
     lent-requires
     enum-known-lent
     enum-told
+    mode-of-requires
     accept-requires
     enum-known-tested
     enum-told-2

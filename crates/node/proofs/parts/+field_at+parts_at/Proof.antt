@@ -27,10 +27,10 @@ use Rattle.node.proofs.parts.+field_at+parts_at.{statement}
 use Rattle.node.proofs.parts.+field_at+parts_at.Tie.{close}
 
 abbrev μ-field-at : Measures 3 field-at-kinds.ps ℕ
-μ-field-at κs a = 2 * length (now (a .1 .1 .1 .1 .0))
+μ-field-at κs a = 2 * length (now (a .1 .1 .1 .1 .1 .0))
 
 abbrev μ-parts-at : Measures 3 parts-at-kinds.ps ℕ
-μ-parts-at κs a = 2 * length (now (a .1 .1 .1 .0)) + 1
+μ-parts-at κs a = 2 * length (now (a .1 .1 .1 .1 .0)) + 1
 
 abbrev field-at-at : ℕ → In 3 field-at-kinds.ps
 field-at-at t = and 3 field-at-kinds.ps (is 3 field-at-kinds.ps μ-field-at t) field-at.Pre
@@ -92,7 +92,7 @@ field-at-parts-at-requires t c κs = let a = c .before .before .before .before .
       (c .before .before .before .before .before .before .before .before .before .before .before .before .pre .1 .0 .0),
       (c .before .before .before .before .before .before .before .before .before .before .before .before .pre .1 .0 .1),
     )
-    (c .before .before .before .before .before .before .before .if1 .taken) (c .before .before .before .before .if2 .taken) in (
+    (a .mode) (c .before .before .before .before .before .before .before .if1 .taken) (c .before .before .before .before .if2 .taken) in (
       omega (
         arith,
         (c .before .before .before .before .before .before .before .before .before .before .before .before .pre .0),
@@ -125,42 +125,42 @@ field-at-returns t c = let a = c .before .before .before .before .before .before
       (c .before .before .before .before .before .before .before .before .before .before .before .before .before .before .before .pre .1 .0 .0),
       (c .before .before .before .before .before .before .before .before .before .before .before .before .before .before .before .pre .1 .0 .1),
     )
-    (c .before .before .before .before .before .before .before .before .before .before .if1 .taken)
+    (a .mode) (c .before .before .before .before .before .before .before .before .before .before .if1 .taken)
     (c .before .before .before .before .before .before .before .if2 .taken) in
     ((c .before .before .parts-at .ensures .0) ∙ ap (λ (l : List (List ℕ)). partsIn (a .body .now) (a .table .now) (a .n) ++ l) (sym e), (c .before .before .parts-at .ensures .1))
 
 field-at-returns-2 :
     (t : ℕ) →
     field-at-lts.Need-returns-2 (parts-at-below t, parts-at.Post) (field-at-at t) field-at.Post
-field-at-returns-2 t c = let a = c .before .before .before .before .before .before .before .before .args in (none-more (a .body .now) (a .table .now) (a .n) _ (field-other (a .path .now) (between (a .body .now) (a .start) (a .end)) (a .f) (c .before .before .before .if1 .taken) (c .if2 .left)), (c .before .before .before .before .before .before .before .before .pre .1 .1 .1 .0))
+field-at-returns-2 t c = let a = c .before .before .before .before .before .before .before .before .args in (none-more (a .body .now) (a .table .now) (a .n) _ (field-other (a .mode) (a .path .now) (between (a .body .now) (a .start) (a .end)) (a .f) (c .before .before .before .if1 .taken) (c .if2 .left)), (c .before .before .before .before .before .before .before .before .pre .1 .1 .1 .0))
 
 field-at-returns-3 :
     (t : ℕ) →
     field-at-lts.Need-returns-3 (parts-at-below t, parts-at.Post) (field-at-at t) field-at.Post
-field-at-returns-3 t c = let a = c .before .before .before .before .before .args in (none-more (a .body .now) (a .table .now) (a .n) _ (field-no (a .path .now) (between (a .body .now) (a .start) (a .end)) (a .f) (c .if1 .left)), (c .before .before .before .before .before .pre .1 .1 .1 .0))
+field-at-returns-3 t c = let a = c .before .before .before .before .before .args in (none-more (a .body .now) (a .table .now) (a .n) _ (field-no (a .mode) (a .path .now) (between (a .body .now) (a .start) (a .end)) (a .f) (c .if1 .left)), (c .before .before .before .before .before .pre .1 .1 .1 .0))
 
 abbrev parts-at-Inv-loop : parts-at-lts.InvT-loop
-parts-at-Inv-loop body start end path table₀ n at₀ k₀ table at k = Walked body start end path table₀ n table at k × (length table ≡ length table₀)
+parts-at-Inv-loop mode body start end path table₀ n at₀ k₀ table at k = Walked mode body start end path table₀ n table at k × (length table ≡ length table₀)
 
 abbrev parts-at-μ-loop : parts-at-lts.MeasureT-loop
-parts-at-μ-loop body start end path table₀ n at₀ k₀ table at k = (end - start) - at
+parts-at-μ-loop mode body start end path table₀ n at₀ k₀ table at k = (end - start) - at
 
 parts-at-add-part-requires : (t : ℕ) → parts-at-lts.Need-add-part-requires (parts-at-claims t) (parts-at-at t) parts-at.Post parts-at-Inv-loop parts-at-μ-loop
-parts-at-add-part-requires t c κs = let a = c .before .before .before .before .before .args in one-room (a .body .now) (a .path .now) (a .table .now) (a .n) (a .start) (a .end) (c .before .if1 .taken) (c .before .before .before .before .before .pre .1 .1 .1)
+parts-at-add-part-requires t c κs = let a = c .before .before .before .before .before .args in one-room (a .mode) (a .body .now) (a .path .now) (a .table .now) (a .n) (a .start) (a .end) (c .before .if1 .taken) (c .before .before .before .before .before .pre .1 .1 .1)
 
 parts-at-same-length : (t : ℕ) → parts-at-lts.Need-same-length (parts-at-claims t) (parts-at-at t) parts-at.Post parts-at-Inv-loop parts-at-μ-loop
 parts-at-same-length t c = search needs
 
 parts-at-returns : (t : ℕ) → parts-at-lts.Need-returns (parts-at-claims t) (parts-at-at t) parts-at.Post parts-at-Inv-loop parts-at-μ-loop
 parts-at-returns t c = let a = c .before .before .before .before .before .before .before .before .args in
-    one-more (a .body .now) (a .path .now) (a .table .now) (a .n) (a .start) (a .end) (c .before .before .before .before .if1 .taken)
+    one-more (a .mode) (a .body .now) (a .path .now) (a .table .now) (a .n) (a .start) (a .end) (c .before .before .before .before .if1 .taken)
     (c .before .before .before .before .before .before .before .before .pre .1 .1 .1)
     (c .before .before .before .before .before .before .before .before .pre .1 .1 .0)
     (c .before .before .before .before .before .before .before .before .pre .1 .0) _ _ (c .before .before .add-part .ensures .0)
     (c .before .before .add-part .ensures .1)
 
 parts-at-loop-holds : (t : ℕ) → parts-at-lts.Need-loop-holds (parts-at-claims t) (parts-at-at t) parts-at.Post parts-at-Inv-loop parts-at-μ-loop
-parts-at-loop-holds t c = let a = c .before .before .before .before .args in (walked-all (a .body .now) (a .start) (a .end) (a .path .now) (a .table .now) (a .n) (c .before .before .before .before .pre .1 .1 .0) (c .if1 .left), refl)
+parts-at-loop-holds t c = let a = c .before .before .before .before .args in (walked-all (a .mode) (a .body .now) (a .start) (a .end) (a .path .now) (a .table .now) (a .n) (c .before .before .before .before .pre .1 .1 .0) (c .if1 .left), refl)
 
 parts-at-sub-loop : (t : ℕ) → parts-at-lts.Need-sub-loop (parts-at-claims t) (parts-at-at t) parts-at.Post parts-at-Inv-loop parts-at-μ-loop
 parts-at-sub-loop t c = c .before .before .before .before .before .pre .1 .0 .0
@@ -184,7 +184,7 @@ parts-at-same-length-2 : (t : ℕ) → parts-at-lts.Need-same-length-2 (parts-at
 parts-at-same-length-2 t c = c .before .before .before .before .before .loop .inv .1
 
 parts-at-returns-2 : (t : ℕ) → parts-at-lts.Need-returns-2 (parts-at-claims t) (parts-at-at t) parts-at.Post parts-at-Inv-loop parts-at-μ-loop
-parts-at-returns-2 t c = let a = c .before .before .before .before .before .before .before .before .before .before .args in let l = c .before .before .before .before .before .loop in walked-done _ _ _ _ _ _ _ _ _ (l .inv .0) (path-end (a .path .now) (between (a .body .now) (a .start) (a .end)) (l .at) (sym (c .enum-told .given .1) ∙ (c .before .before .read-field .ensures)))
+parts-at-returns-2 t c = let a = c .before .before .before .before .before .before .before .before .before .before .args in let l = c .before .before .before .before .before .loop in walked-done (a .mode) _ _ _ _ _ _ _ _ _ (l .inv .0) (path-end (a .mode) (a .path .now) (between (a .body .now) (a .start) (a .end)) (l .at) (sym (c .enum-told .given .1) ∙ (c .before .before .read-field .ensures)))
 
 parts-at-enum-told-2 : (t : ℕ) → parts-at-lts.Need-enum-told-2 (parts-at-claims t) (parts-at-at t) parts-at.Post parts-at-Inv-loop parts-at-μ-loop
 parts-at-enum-told-2 t c = search needs
@@ -193,7 +193,7 @@ parts-at-same-length-3 : (t : ℕ) → parts-at-lts.Need-same-length-3 (parts-at
 parts-at-same-length-3 t c = c .before .before .before .before .before .loop .inv .1
 
 parts-at-returns-3 : (t : ℕ) → parts-at-lts.Need-returns-3 (parts-at-claims t) (parts-at-at t) parts-at.Post parts-at-Inv-loop parts-at-μ-loop
-parts-at-returns-3 t c = let a = c .before .before .before .before .before .before .before .before .before .before .args in let l = c .before .before .before .before .before .loop in walked-done _ _ _ _ _ _ _ _ _ (l .inv .0) (path-refused (a .path .now) (between (a .body .now) (a .start) (a .end)) (l .at) _ (sym (c .enum-told2 .given .1) ∙ (c .before .before .read-field .ensures)))
+parts-at-returns-3 t c = let a = c .before .before .before .before .before .before .before .before .before .before .args in let l = c .before .before .before .before .before .loop in walked-done (a .mode) _ _ _ _ _ _ _ _ _ (l .inv .0) (path-refused (a .mode) (a .path .now) (between (a .body .now) (a .start) (a .end)) (l .at) _ (sym (c .enum-told2 .given .1) ∙ (c .before .before .read-field .ensures)))
 
 parts-at-enum-known-step : (t : ℕ) → parts-at-lts.Need-enum-known-step (parts-at-claims t) (parts-at-at t) parts-at.Post parts-at-Inv-loop parts-at-μ-loop
 parts-at-enum-known-step t c = search needs
@@ -201,7 +201,7 @@ parts-at-enum-known-step t c = search needs
 parts-at-field-at-requires : (t : ℕ) → parts-at-lts.Need-field-at-requires (parts-at-claims t) (parts-at-at t) parts-at.Post parts-at-Inv-loop parts-at-μ-loop
 parts-at-field-at-requires t c κs = let a = c .before .before .before .before .before .before .before .before .before .before .before .before .args in let l = c .before .before .before .before .before .before .before .loop in
     let e = sym (c .before .before .step .given .1) ∙ (c .before .before .before .before .read-field .ensures) in
-    let m = field-stands (between (a .body .now) (a .start) (a .end)) (l .at) _ e in (
+    let m = field-stands (a .mode) (between (a .body .now) (a .start) (a .end)) (l .at) _ e in (
       omega (arith, (c .before .before .before .before .before .before .before .before .before .before .before .before .pre .0)),
       (
         (
@@ -214,7 +214,7 @@ parts-at-field-at-requires t c κs = let a = c .before .before .before .before .
           record { order = m .ends; fits = m .within },
           (
             l .inv .0 .parts,
-            walked-room _ _ _ _ _ _ _ _ _ (l .inv .0) _ e (l .inv .1)
+            walked-room _ _ _ _ _ _ _ _ _ _ (l .inv .0) _ e (l .inv .1)
                 (c .before .before .before .before .before .before .before .before .before .before .before .before .pre .1 .1 .1),
           ),
         ),
@@ -223,14 +223,14 @@ parts-at-field-at-requires t c κs = let a = c .before .before .before .before .
 
 parts-at-loop-less : (t : ℕ) → parts-at-lts.Need-loop-less (parts-at-claims t) (parts-at-at t) parts-at.Post parts-at-Inv-loop parts-at-μ-loop
 parts-at-loop-less t c = let a = c .before .before .before .before .before .before .before .before .before .before .before .before .before .before .before .args in let l = c .before .before .before .before .before .before .before .before .before .before .loop in
-    let m = field-stands (between (a .body .now) (a .start) (a .end)) (l .at) _ (sym (c .before .before .before .before .before .step .given .1) ∙ (c .before .before .before .before .before .before .before .read-field .ensures)) in
+    let m = field-stands (a .mode) (between (a .body .now) (a .start) (a .end)) (l .at) _ (sym (c .before .before .before .before .before .step .given .1) ∙ (c .before .before .before .before .before .before .before .read-field .ensures)) in
     omega (arith, m .tagged, m .begins, m .ends, (c .before .before .before .before .before .before .before .before .before .loop-test .taken))
 
 parts-at-loop-again : (t : ℕ) → parts-at-lts.Need-loop-again (parts-at-claims t) (parts-at-at t) parts-at.Post parts-at-Inv-loop parts-at-μ-loop
 parts-at-loop-again t c = let a = c .before .before .before .before .before .before .before .before .before .before .before .before .before .before .before .args in let l = c .before .before .before .before .before .before .before .before .before .before .loop in
     let e = sym (c .before .before .before .before .before .step .given .1) ∙ (c .before .before .before .before .before .before .before .read-field .ensures) in
     let k = l .inv .1 in
-    (walked-turn _ _ _ _ _ _ _ _ _ (l .inv .0) _ e _ _ (c .before .before .field-at .ensures .0) (c .before .before .field-at .ensures .1), omega arith)
+    (walked-turn _ _ _ _ _ _ _ _ _ _ (l .inv .0) _ e _ _ (c .before .before .field-at .ensures .0) (c .before .before .field-at .ensures .1), omega arith)
 
 parts-at-same-length-4 : (t : ℕ) → parts-at-lts.Need-same-length-4 (parts-at-claims t) (parts-at-at t) parts-at.Post parts-at-Inv-loop parts-at-μ-loop
 parts-at-same-length-4 t c = c .before .loop .inv .1
@@ -239,7 +239,7 @@ parts-at-returns-4 : (t : ℕ) → parts-at-lts.Need-returns-4 (parts-at-claims 
 parts-at-returns-4 t c = let a = c .before .before .before .before .before .before .args in let l = c .before .loop in
     let z = between-length (a .body .now) (a .start) (a .end) (c .before .before .before .before .before .before .pre .1 .0 .1) in
     let h : length (between (a .body .now) (a .start) (a .end)) ≤ l .at = omega arith in
-    walked-done _ _ _ _ _ _ _ _ _ (l .inv .0) (path-done (a .path .now) (between (a .body .now) (a .start) (a .end)) (l .at) h)
+    walked-done (a .mode) _ _ _ _ _ _ _ _ _ (l .inv .0) (path-done (a .mode) (a .path .now) (between (a .body .now) (a .start) (a .end)) (l .at) h)
 
 pub +field-at+parts-at-spec : {M : Type 1} → statement M
 +field-at+parts-at-spec = close μ-field-at μ-parts-at (λ t. field-at-lts.spec (field-at-claims t)
