@@ -8,6 +8,7 @@ use mathlib.Core.List.{List, [], _∷_, _++_, append-nil}
 use mathlib.Core.Option.{some}
 use native.Mathlib.Omega.{arith}
 use lib.ListN.{length, getD}
+use Rattle.basis.specs.Dialect.{modeOf}
 use Rattle.basis.specs.declared.Edition.{Edition}
 use Rattle.basis.specs.declared.Edition.the-variants.{V11, V12}
 use Rattle.basis.specs.Bytes.{Bytes}
@@ -230,14 +231,15 @@ b-is = ap (λ (cs : List Call). gatewayOf (afterAll cs (start settings-b))) (sym
     ∙ fresh-leaves script-b fresh-b written-b
 
 -- ---- a lacks the second message
-a-misses : missing topic gateway-a (gateway-b .cache) ≡ record { id = idOf 2; message = unsigned 2; window = 0 } ∷ []
+a-misses : missing (modeOf (gateway-b .flags)) topic gateway-a (gateway-b .cache)
+    ≡ record { id = idOf 2; message = unsigned 2; window = 0 } ∷ []
 unfolding gateway-a gateway-b gatewayAfter started isNew afterAdmit live inserted newest until held put unsigned
     isSigned slotsOf withField setPlace roleOf missing knows allowsUnsigned holds among sameBytes walkAt walkFrom
     readField readValue skipField skipFixed readVarint readLen readTag readUvarint readFrom groupOf topicsOf
 a-misses = refl
 
 pub a-lacks-the-second : lacked topic at-a at-b ≡ record { id = idOf 2; message = unsigned 2; window = 0 } ∷ []
-a-lacks-the-second = ap₂ (λ (g h : Gateway). missing topic g (h .cache)) a-is b-is ∙ a-misses
+a-lacks-the-second = ap₂ (λ (g h : Gateway). missing (modeOf (h .flags)) topic g (h .cache)) a-is b-is ∙ a-misses
 
 -- asks for it, and b has it
 a-wants : lacking gateway-a (toldOf topic 3 gateway-b) ≡ idOf 2 ∷ []

@@ -9,9 +9,10 @@ use mathlib.Core.List.{List, [], _∷_, _++_}
 use native.Mathlib.Omega.{arith}
 use lib.ListN.{length, getD, replicate, length-replicate, getD-replicate}
 use borrow.Author.Tests.{lt-ltb, le-ltb, lt-leb}
+use Rattle.basis.specs.declared.Mode.{Mode}
 use Rattle.basis.specs.declared.Edition.{Edition}
 use Rattle.basis.specs.declared.Edition.the-variants.{V11, V12}
-use Rattle.basis.specs.Dialect.{spoken}
+use Rattle.basis.specs.Dialect.{modeOf, spoken}
 use Rattle.basis.specs.Cases.{either}
 use Rattle.basis.specs.Writing.{answer}
 use Rattle.peer_id.specs.Uvarint.{uvarint, bytesOf, readUvarint, readFrom, groupOf}
@@ -194,7 +195,8 @@ module _ (flags : ℕ) (m : List ℕ) (why : Unfit) (u : admissionOf flags m tru
       let q = p .2 in
       let e : admissionOf (s .node .cache .flags) m word ≡ admission.Unfit why =
       ap (λ (f : ℕ). admissionOf f m word) same ∙ vouched-same flags m word (p .0) ∙ u in
-      rw (p .1, q .found, q .bytes, e)
+      let k : modeOf (s .node .cache .flags) ≡ modeOf flags = ap modeOf same in
+      rw (k, p .1, k, q .found, q .bytes, e)
 
   not-new : (s : State) (at : ℕ) (l : Lent) → newAnswer (admitAnswer (s .node) (s .ids) at
       (onLent (λ (f : Fault). no (answered.Faulty f)) l (no (answered.Unfit why)))) ≡ 0
@@ -315,7 +317,7 @@ unfolding gateway-a started isNew afterAdmit live inserted newest until held put
     readLen readTag readUvarint readFrom groupOf
 teller-has = refl
 
-asker-misses : missing topic (startedBy settings-a) (gateway-a .cache)
+asker-misses : missing (modeOf (gateway-a .flags)) topic (startedBy settings-a) (gateway-a .cache)
     ≡ record { id = idOf 1; message = unsigned 1; window = 0 } ∷ []
 unfolding gateway-a started isNew afterAdmit live inserted newest until held put unsigned isSigned slotsOf withField
     setPlace roleOf missing knows allowsUnsigned holds among sameBytes walkAt walkFrom readField readValue skipField
@@ -323,7 +325,7 @@ unfolding gateway-a started isNew afterAdmit live inserted newest until held put
 asker-misses = refl
 
 asker-lacks : lacked topic asker at-a ≡ record { id = idOf 1; message = unsigned 1; window = 0 } ∷ []
-asker-lacks = ap₂ (λ (g h : Gateway). missing topic g (h .cache)) asker-is a-is ∙ asker-misses
+asker-lacks = ap₂ (λ (g h : Gateway). missing (modeOf (h .flags)) topic g (h .cache)) asker-is a-is ∙ asker-misses
 
 -- what is served
 body-written : bytesField 2 (unsigned 1) ≡ unsignedBody 1
@@ -404,8 +406,8 @@ needs-alike =
 
 -- ---- two gateways that lack nothing of each other, and tell of different ids
 pub record Apart (windows : ℕ) (a b : Gateway) (tells-a tells-b : List (List ℕ)) : Type 0 where
-  pub a-lacks : missing topic a (b .cache) ≡ []
-  pub b-lacks : missing topic b (a .cache) ≡ []
+  pub a-lacks : missing (modeOf (b .flags)) topic a (b .cache) ≡ []
+  pub b-lacks : missing (modeOf (a .flags)) topic b (a .cache) ≡ []
   pub a-tells : toldOf topic windows a ≡ tells-a
   pub b-tells : toldOf topic windows b ≡ tells-b
 
@@ -429,7 +431,7 @@ needs-few-heartbeats = record { a-lacks = refl; b-lacks = refl; a-tells = refl; 
 
 -- ---- something is lacking, and what is told of does not have it
 pub record Untold (told : List (List ℕ)) (a b : Gateway) : Type 0 where
-  pub lacks : length (missing topic a (b .cache)) ≡ 1
+  pub lacks : length (missing (modeOf (b .flags)) topic a (b .cache)) ≡ 1
   pub asks : lacking a told ≡ []
 
 -- ---- windows at least both history_lens
@@ -498,15 +500,16 @@ unwantedBody = 26 ∷ 43 ∷ 42 ∷ 41 ∷ 10 ∷ 39 ∷ second-id
 abbrev wantedBody : List ℕ
 wantedBody = 26 ∷ 43 ∷ 18 ∷ 41 ∷ 10 ∷ 39 ∷ second-id
 
-bodies-taken : (acceptOf (spoken V11) wantedBody ≡ checked.Fine) × (acceptOf (spoken V12) unwantedBody ≡ checked.Fine)
+bodies-taken : (mode : Mode)
+    → (acceptOf (spoken mode V11) wantedBody ≡ checked.Fine) × (acceptOf (spoken mode V12) unwantedBody ≡ checked.Fine)
 unfolding acceptOf bodyRecords counted overKinds toDepth textCount roleOf rank ownOf isUtf8 run walkAt walkFrom
     readField readValue skipField skipFixed readVarint readLen readTag readUvarint readFrom groupOf
-bodies-taken = (refl, refl)
+bodies-taken mode = (refl, refl)
 
-none-remain : remaining wantedBody unwantedBody ≡ []
+none-remain : (mode : Mode) → remaining mode wantedBody unwantedBody ≡ []
 unfolding remaining wanted unwantedIn atPath onceAfter without among sameBytes walkAt walkFrom readField readValue
     skipField skipFixed readVarint readLen readTag readUvarint readFrom groupOf
-none-remain = refl
+none-remain mode = refl
 
 none-cached : (c : MessageCache) (st : List ℕ) → cachedOf c st [] ≡ []
 unfolding cachedOf rowsFor
@@ -515,12 +518,13 @@ none-cached c st = refl
 none-served : replyWith play unwantedBody lacking-a holding-it ≡ served.Reply 0 0 0
 unfolding serveAnswer
 none-served =
+    let mode = modeOf (holding-it .node .cache .flags) in
     rw (
       request-bytes,
       history-keeps calls-b fresh-b .fine,
-      bodies-taken .0,
-      bodies-taken .1,
-      none-remain,
+      bodies-taken mode .0,
+      bodies-taken mode .1,
+      none-remain mode,
       none-cached (holding-it .node .cache) (holding-it .messages),
     )
 
@@ -530,7 +534,8 @@ needs-no-idontwant = withheld play unwantedBody lacking-a holding-it (ap length 
 -- ---- the clock never falls
 -- a message that would be taken, and a heartbeat, are refused by 31 at a reading before the clock
 pub needs-rises : (n : Node) (ss cs : List ℕ) (ed : Edition) (body : List ℕ) (i at a e x y z w : ℕ)
-    → lentOf n ss cs ≡ lent.Fine → acceptOf (spoken ed) body ≡ checked.Fine → messageAt body i ≡ found.At a e
+    → lentOf n ss cs ≡ lent.Fine → acceptOf (spoken (modeOf (n .cache .flags)) ed) body ≡ checked.Fine
+    → messageAt (modeOf (n .cache .flags)) body i ≡ found.At a e
     → admissionOf (n .cache .flags) (between body a e) true ≡ admission.Fit x y z w → at < n .clock
     → (planned n ss cs ed body i true at ≡ no (answered.ClockBack (n .clock)))
     × (beatAnswer n ss cs at ≡ beat.ClockBack (n .clock))
@@ -556,7 +561,7 @@ needs-advert-room n ss cs out topic windows fine short h =
     rw (fine, le-ltb 1024 (length topic) short, lt-leb (length (advertiseBytes n cs topic windows)) (length out) h)
 
 pub needs-request-room : (n : Node) (ss cs out : List ℕ) (ed : Edition) (body : List ℕ) → lentOf n ss cs ≡ lent.Fine
-    → acceptOf (spoken ed) body ≡ checked.Fine → length out < length (askBytes n ss body)
+    → acceptOf (spoken (modeOf (n .cache .flags)) ed) body ≡ checked.Fine → length out < length (askBytes n ss body)
     → askAnswer n ss cs ed body out ≡ asked.Room (length (askBytes n ss body))
 unfolding askAnswer answer
 needs-request-room n ss cs out ed body fine ok h = rw (fine, ok, lt-leb (length (askBytes n ss body)) (length out) h)
