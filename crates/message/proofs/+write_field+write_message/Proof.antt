@@ -26,6 +26,7 @@ use Rattle.schema.proofs.role_of.Reads as role-of-reads
 use Rattle.message.proofs.+write_field+write_message.{statement}
 use Rattle.message.proofs.+write_field+write_message.Tie.{close}
 use Rattle.basis.specs.declared.Mode.the-variants.{Groups}
+
 abbrev μ-write-field : Measures 2 write-field-kinds.ps ℕ
 μ-write-field κs a = 2 * rank (a .1 .0)
 

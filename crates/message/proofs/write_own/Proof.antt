@@ -5,6 +5,7 @@ use borrow.Author.Needs.{needs}
 use Rattle.message.proofs.write_own.Statement.{statement}
 use Rattle.message.proofs.write_own.Tie as tie
 use Rattle.basis.specs.declared.Mode.the-variants.{Groups}
+
 own-requires : tie.Need-own-requires
 own-requires c κs = search needs
 
