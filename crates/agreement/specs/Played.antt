@@ -9,7 +9,6 @@ use native.Mathlib.Omega.{arith}
 use lib.ListN.{length, getD, take}
 use lib.Seq.{sets}
 use borrow.Author.Tests.{le-ltb}
-use Rattle.node.specs.State.{gatewayIn}
 use Rattle.basis.specs.declared.Edition.the-variants.{V11, V12}
 use Rattle.basis.specs.Dialect.{modeOf, spoken}
 use Rattle.basis.specs.Cases.{either}
@@ -20,6 +19,7 @@ use Rattle.rows.specs.ListLaws.{put-sets}
 use Rattle.protobuf.specs.declared.Checked.the-variants as checked
 use Rattle.protobuf.specs.Encode.{bytesField}
 use Rattle.schema.specs.Accept.{acceptOf}
+use Rattle.schema.specs.AcceptLaws.{empty-taken}
 use Rattle.admission.specs.AdmissionLaws.{gives-only, fit-limits}
 use Rattle.node.specs.Parts.{fitting}
 use Rattle.node.specs.PartsLaws.{fitting-room, fitting-le}
@@ -30,11 +30,11 @@ use Rattle.node.specs.declared.Advertise.the-variants as told
 use Rattle.node.specs.declared.Ask.the-variants as asked
 use Rattle.node.specs.declared.Serve.{Serve}
 use Rattle.node.specs.Gateway.{Gateway, toldOf, lacking, having, maxRpcSize}
+use Rattle.node.specs.State.{gatewayIn}
 use Rattle.node.specs.Calls.{lentOf, advertiseAnswer, advertiseLeft, advertiseBytes, askAnswer, askLeft, askBytes}
 use Rattle.node.specs.Calls.{serveAnswer, serveLeft, cachedOf, remaining, roomOf, servedOf, replyBytes, replyTo}
 use Rattle.node.specs.Calls.{serveNumber}
 use Rattle.node.specs.ReplyLaws.{reply-some}
-use Rattle.schema.specs.AcceptLaws.{empty-taken}
 use Rattle.outputs.specs.Adverts.{advert-rpc, advert-taken}
 use Rattle.history.specs.History.{State, gatewayOf, Settings, admit, advertise, ask, serve, refusalAt, servedBytes}
 use Rattle.history.specs.History.{servedMessages, admits}
