@@ -107,6 +107,31 @@ def newer():
     yield "declined-ids", idontwant([some(46, i) for i in range(MAX_RECORDS - 1)])
 
 
+def group(number, content):
+    return varint(number * 8 + 3) + content + varint(number * 8 + 4)
+
+
+def grouped():
+    """(name, body) with groups: one of many fields, groups as deep as they may be, and mixed bodies with a group in each message and behind each unit."""
+    yield "one-group", group(1, b"\x08\x00" * (FULL // 2 - 1))
+    deep = b""
+    for _ in range(32):
+        deep = group(1, deep)
+    yield "deep-groups", deep * (FULL // len(deep))
+    for size in (1024, 65536):
+        units = (with_groups(unit(i, 960), i) for i in range(size // 1024))
+        yield "mixed-groups-%d" % size, b"".join(units)
+
+
+def with_groups(made, i):
+    """A unit, which begins with its message, with a group in that and one behind it: 1,024 bytes of 960."""
+    own = group(9, field(1, some(20, i)) + b"\x10\x05")
+    size, at = made[1] % 128 + 128 * made[2], 3
+    inside = field(2, own + made[at:at + size])
+    rest = 1024 - len(inside) - (len(made) - at - size)
+    return inside + made[at + size:] + group(9, field(1, bytes(rest - 4)))
+
+
 def some_text(i):
     return ("topic-%04d-" % i * 12)[:118].encode()
 
@@ -154,7 +179,7 @@ def lists(name, rows):
 
 
 def write(folder):
-    """Writes the inputs, and gives the file names of the bodies, those of edition 1.2 among them, and of the lists."""
+    """Writes the inputs, and gives the file names of the bodies, those of edition 1.2 and those with groups among them, and of the lists."""
     os.makedirs(folder, exist_ok=True)
 
     def put(name, data):
@@ -170,6 +195,10 @@ def write(folder):
         assert len(body) <= FULL, name
         put(name + ".v12", body)
         names.append(name + ".v12")
+    for name, body in grouped():
+        assert len(body) <= FULL, name
+        put(name + ".groups", body)
+        names.append(name + ".groups")
     for name in LISTS:
         for rows in ROWS:
             names.append("%s-%d.rows" % (name, rows))

@@ -4,7 +4,7 @@
  *
  *     compare time|count REPETITIONS CLEAR FOLDER FILE...
  *
- * A FILE is a body (.bin), a body of edition 1.2, which the Rust does not have (.v12), or lists (.rows).
+ * A FILE is a body (.bin), a body of edition 1.2, which the Rust does not have (.v12), one with groups, which it refuses (.groups), or lists (.rows).
  * For each case a line: its name, and then for each repetition the nanoseconds per call of ours and of the Rust's (0 where the Rust has no such call).
  * With `count`, the line has the number of calls, and each loop stands between marks: system calls `getppid`, which the counting plugin of the emulator looks for,
  * and requests to write down what was counted, which valgrind takes.
@@ -85,6 +85,7 @@ static struct bytes read_file(const char *folder, const char *name)
 
 static struct bytes body, ids, others, bodies, cached_ids, offer, request, unwanted;
 static uint32_t dialect = PRADULINS_V1_1;
+static uint32_t node_flags = 0;
 static size_t message_index, rows, body_size, cached_id_size;
 static int clear;
 
@@ -133,6 +134,16 @@ static uint64_t our_sign(uint64_t times)
         clear_out();
         sum += pradulins_sign_bytes(dialect, body.at, body.len, message_index, out, sizeof out, values) + values[0];
     }
+    return sum;
+}
+
+/* Over all fields of the body. */
+static uint64_t our_walk(uint64_t times)
+{
+    uint64_t sum = 0;
+    while (times-- > 0)
+        for (size_t at = 0; pradulins_walk(dialect, body.at, body.len, at, values) == 0 && values[0] != 0; at = values[3])
+            sum += values[0];
     return sum;
 }
 
@@ -289,7 +300,7 @@ static void fill_node(void)
     seen_len = sizeof seen;
     cache_len = sizeof cache;
     turn = 0;
-    if (pradulins_start(node, 1000000, PRADULINS_MAX_SEEN, PRADULINS_MAX_HISTORY, PRADULINS_MAX_MESSAGES, 0))
+    if (pradulins_start(node, 1000000, PRADULINS_MAX_SEEN, PRADULINS_MAX_HISTORY, PRADULINS_MAX_MESSAGES, node_flags))
         fail("refused", "start");
     for (int i = 0; i < PRADULINS_MAX_SEEN; i++)
         if (admit_next() || values[0] != 1)
@@ -507,6 +518,38 @@ static void agree(const char *name, uint32_t number, bool sign)
         fail("other bytes than the Rust's", name);
 }
 
+static void measure_in(const char *what, const char *file, size_t stem, loop *ours)
+{
+    char name[256];
+    snprintf(name, sizeof name, "%s/%.*s", what, (int)stem, file);
+    measure(name, ours, NULL, 0, 8);
+}
+
+/* Each call on the body where groups are skipped. */
+static void where_skipped(const char *file, size_t stem)
+{
+    dialect = PRADULINS_V1_1 | PRADULINS_GROUPS;
+    measure_in("decode-groups", file, stem, our_decode);
+    measure_in("reencode-groups", file, stem, our_encode);
+    if (pradulins_sign_bytes(dialect, body.at, body.len, (size_t)-1, out, sizeof out, values) == PRADULINS_NO_MESSAGE && values[0] > 0) {
+        message_index = values[0] - 1;
+        measure_in("sign-groups", file, stem, our_sign);
+    }
+    measure_in("walk-groups", file, stem, our_walk);
+    dialect = PRADULINS_V1_1;
+}
+
+/* With groups: ours alone. Where they are refused it is refused, where they are skipped it is written anew. */
+static void group_cases(const char *folder, const char *file)
+{
+    body = read_file(folder, file);
+    if (pradulins_encode(PRADULINS_V1_1, body.at, body.len, out, sizeof out, values) != PRADULINS_WIRE_TYPE
+        || pradulins_encode(PRADULINS_V1_1 | PRADULINS_GROUPS, body.at, body.len, out, sizeof out, values))
+        fail("refused or taken otherwise", file);
+    where_skipped(file, strlen(file) - 7);
+    free(body.at);
+}
+
 static void body_cases(const char *folder, const char *file)
 {
     char name[256];
@@ -523,6 +566,11 @@ static void body_cases(const char *folder, const char *file)
         agree(file, pradulins_sign_bytes(dialect, body.at, body.len, message_index, out, sizeof out, values), true);
         snprintf(name, sizeof name, "sign/%.*s", (int)stem, file);
         measure(name, our_sign, their_sign, 0, 8);
+    }
+    /* Bodies without groups where groups are skipped: ours alone, and the same bytes. */
+    if (strncmp(file, "mixed-", 6) == 0 || strncmp(file, "unknown-fields", 14) == 0) {
+        measure_in("walk", file, stem, our_walk);
+        where_skipped(file, stem);
     }
     free(body.at);
 }
@@ -637,6 +685,13 @@ static void node_cases(void)
     measure("node/read-write", node_store, NULL, 0, 8);
     measure("node/read-test", node_test, NULL, 0, 8);
     measure("node/admit-new", node_admit_new, NULL, 0, 8);
+    node_flags = PRADULINS_GROUPS;
+    fill_node();
+    measure("node-groups/admit-duplicate", node_admit_dup, NULL, 0, 8);
+    measure("node-groups/heartbeat", node_heartbeat, NULL, 0, 8);
+    fill_node();
+    measure("node-groups/ask", node_ask, NULL, 0, 8);
+    measure("node-groups/serve", node_serve, NULL, 0, 8);
 }
 
 int main(int argc, char **argv)
@@ -652,6 +707,8 @@ int main(int argc, char **argv)
             list_cases(folder, argv[i]);
         else if (ends_in(argv[i], ".v12"))
             edition_cases(folder, argv[i]);
+        else if (ends_in(argv[i], ".groups"))
+            group_cases(folder, argv[i]);
         else
             body_cases(folder, argv[i]);
     }

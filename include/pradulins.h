@@ -13,7 +13,8 @@
  *
  * What a caller owes, as in any C program: each pointer is to as many elements as are said beside it, and is not null, also where the number is 0;
  * what a call may write (the pointers that are not const) overlaps nothing else that is passed to it; numbers of 64 bits are aligned; `verified` is
- * 0 or 1. Two calls on one node must not run at once; apart from that, threads need no lock. The calls take some stack; 1 MB is more than enough.
+ * 0 or 1. Two calls on one node must not run at once; apart from that, threads need no lock. The calls take some stack; 1 MB is more than enough, also where groups
+ * stand in one another ("groups", below), which takes some 65 frames more at most.
  */
 #ifndef PRADULINS_H
 #define PRADULINS_H
@@ -29,20 +30,22 @@ extern "C" {
 /* ---- version */
 
 /*
- * The version that this header is of, 0.8.0: 10000 times the first number, 100 times the second, and the third. pradulins_version() is that of the archive.
- * Since 0.4.0 `values` has 8 numbers, where it had 4; since 0.7.0 pradulins_start and pradulins_write_rpc have an argument more, and since 0.8.0 all calls that read a
- * body, but for pradulins_walk: a program that was made with an earlier header is not to be linked with this archive. Make it anew, and hold pradulins_version() to
- * PRADULINS_VERSION before the first call.
+ * The version that this header is of, 0.9.0: 10000 times the first number, 100 times the second, and the third. pradulins_version() is that of the archive.
+ * Since 0.4.0 `values` has 8 numbers, where it had 4; since 0.7.0 pradulins_start and pradulins_write_rpc have an argument more, since 0.8.0 all calls that read a
+ * body, but for pradulins_walk, and since 0.9.0 that one, too: a program that was made with an earlier header is not to be linked with this archive. Make it anew, and
+ * hold pradulins_version() to PRADULINS_VERSION before the first call.
  * Since 0.5.0 a message's from is a peer id, and pradulins_admit meets 34, 35 and 36 ("senders", below).
  * Since 0.6.0 a host speaks first: pradulins_write_rpc and pradulins_sign_fields ("speaking first", below), and the refusal 13.
  * Since 0.7.0 a node has flags, of which the first allows messages that nobody signed ("flags", below); with flags 0 every answer is as before.
  * Since 0.8.0 a body is read in an edition of gossipsub, 1.1 or 1.2 ("editions", below), and pradulins_serve can be lent a second body; in 1.1, and without a second body,
  * every answer is as before.
+ * Since 0.9.0 groups can be skipped where they were refused ("groups", below): a bit of a dialect and a flag of a node, and the refusals 14, 15 and 16; without that bit
+ * and that flag every answer is as before.
  * The format is that of a node's bytes and its stores: a state that was saved under another format is not to be loaded. pradulins_format() is the archive's: hold
  * it to PRADULINS_FORMAT before the first call, since a node of another format may have another length. Format 3 came with 0.7.0: a node keeps its flags in 8 bytes at
  * its end, and has 12,440 bytes where it had 12,432. Nodes of the formats 1 and 2 are not taken over: start anew, and catch up.
  */
-#define PRADULINS_VERSION 800
+#define PRADULINS_VERSION 900
 #define PRADULINS_FORMAT 3
 
 /* ---- sizes */
@@ -89,8 +92,11 @@ extern "C" {
 #define PRADULINS_VARINT_OVERFLOW 2     /* a varint is above 64 bits */
 #define PRADULINS_VARINT_NOT_MINIMAL 3  /* a varint is longer than it needs to be */
 #define PRADULINS_FIELD_OVERFLOW 4      /* a field passes the end: offset, length, remaining */
-#define PRADULINS_WIRE_TYPE 5           /* a wire type other than 0, 1, 2, 5: type, offset */
+#define PRADULINS_WIRE_TYPE 5           /* a wire type other than 0, 1, 2, 5, where groups are skipped other than 0 to 5: type, offset */
 #define PRADULINS_FIELD_NUMBER 6        /* a field number outside 1 to 536870911: number, offset */
+#define PRADULINS_END_GROUP 14          /* an end tag with no open group, or of another number */
+#define PRADULINS_GROUP_DEPTH 15        /* groups more than 32 deep */
+#define PRADULINS_GROUP_OPEN 16         /* the body, or the submessage, ends inside a group */
 #define PRADULINS_UTF8 7                /* a topic is not UTF-8: offset; of rows that are lent, where it begins in their bytes */
 #define PRADULINS_BODY_TOO_LARGE 10     /* a body above PRADULINS_MAX_BODY bytes: its length */
 #define PRADULINS_TOO_MANY_RECORDS 11   /* above PRADULINS_MAX_RECORDS records, or rows: their number */
@@ -153,10 +159,34 @@ extern "C" {
  * its ids are records, and pradulins_encode writes IDONTWANTs behind the PRUNEs. All else is read alike, and a message is the same in both. A body that is accepted in 1.2
  * is accepted in 1.1; one without such a field gets the same answers in both.
  *
- * `edition`, of calls on a node, and `dialect`, of calls on a body alone, are one of these two. Only the lowest bit counts; leave the others 0.
+ * `edition`, of calls on a node, is one of these two: only the lowest bit counts; leave the others 0. `dialect`, of calls on a body alone, is one of them, and where groups
+ * are to be skipped also PRADULINS_GROUPS ("groups", below).
  */
 #define PRADULINS_V1_1 0
 #define PRADULINS_V1_2 1
+
+/* ---- groups */
+
+/*
+ * A group is an old form of a field: a start tag (wire type 3), fields, and an end tag (wire type 4) of the same number. Some software sends groups as fields that nobody
+ * knows. There are two modes of reading. In the first a tag of type 3 or 4 is refused (5), as in the Rust. In the second, which PRADULINS_GROUPS stands for, a group is
+ * skipped from its start tag up to its end tag, whatever its number. What stands in it is no field of the message around it: no record, no text that is tested. A group's
+ * fields may be groups again.
+ *
+ * Refused are, in the second mode: an end tag where no group is open, or whose number is not that of the group that was opened last (14); a start tag where 32 groups are
+ * open (15); a body that ends inside a group (16). Each submessage is a body of its own: no group is open where it begins, and one that is open where it ends is 16. Beside
+ * 14 to 16 stands nothing, and they have no place. Types 6 and 7 are 5 as before. 1 to 6 are met inside a group, too: their offsets and places are as elsewhere, and the
+ * fields that enclose a place are submessages only. Of 1 to 7 and 14 to 16 the first in reading order is given.
+ *
+ * What the first mode accepts the second accepts, and it means the same. The two differ only where the first refuses type 3 or 4.
+ *
+ * A call on a body takes the mode in `dialect`: PRADULINS_V1_2 | PRADULINS_GROUPS, for example; only the two lowest bits count, leave the others 0. Of a node it is a flag
+ * ("flags", below), chosen at start: the node reads every body in its mode, the second one of pradulins_serve and the messages that it keeps, too.
+ *
+ * pradulins_encode drops groups outside messages; a message keeps all its bytes, groups with them. Sign bytes hold none. So a gateway in the second mode passes messages on
+ * that neighbours in the first mode refuse: with one such message they refuse the whole body (5), and ask for all of it again. All gateways of a mesh must be set alike.
+ */
+#define PRADULINS_GROUPS 2
 
 /* ---- senders */
 
@@ -179,7 +209,7 @@ extern "C" {
 
 /*
  * A node's flags are one number, in which each bit is a flag; pradulins_write_rpc is given the same. 0 is none of them, and is what a gateway in production has. A
- * number with a bit that is not named here is refused: 40 at start and by pradulins_write_rpc, 42 where it stands in a node that is lent.
+ * number with another bit than the two is refused: 40 at start and by pradulins_write_rpc, 42 where it stands in a node that is lent.
  *
  * PRADULINS_ALLOW_UNSIGNED is for a training mesh, whose gateways have no keys. A message with neither signature nor key is then admitted, and written by
  * pradulins_write_rpc, if it passes what is left to test: 21, 22, 34, 23, 28, 29, 30. `verified` says nothing of it, and whoever sends it can put any sender
@@ -192,8 +222,10 @@ extern "C" {
  *   of seen ids, and signed messages that come in again are then new.
  * - All gateways of a mesh must be set alike. One without the flag that catches up with one that has it asks for unsigned messages, refuses each (25), and asks again.
  *
- * The flag is chosen at start. In a node's bytes it can be changed from outside: turned off while an unsigned message is cached, the node is not well
- * formed (42); turned on, nothing finds it out.
+ * PRADULINS_GROUPS is the mode of reading ("groups", above). What pradulins_write_rpc writes has no groups, so the flag changes nothing there.
+ *
+ * Flags are chosen at start, each by itself: PRADULINS_ALLOW_UNSIGNED | PRADULINS_GROUPS are both. In a node's bytes they can be changed from outside: turned off while a
+ * message is cached that needs it (an unsigned one, or one that has a group), the node is not well formed (42); turned on, nothing finds it out.
  */
 #define PRADULINS_ALLOW_UNSIGNED 1
 
@@ -218,8 +250,8 @@ extern "C" {
 
 /*
  * Makes a node that holds nothing, with its clock at 0. An id counts as seen for `ttl` units of the host's clock; at most `max_seen` ids (0 to 256) and
- * `max_messages` messages (0 to 64) are kept, messages for `history_len` windows (1 to 16). `flags` is 0, or PRADULINS_ALLOW_UNSIGNED in a training mesh ("flags",
- * above). The stores' content does not matter yet.
+ * `max_messages` messages (0 to 64) are kept, messages for `history_len` windows (1 to 16). `flags` is 0, or what is said under "flags",
+ * above. The stores' content does not matter yet.
  * Refused: 40.
  */
 uint32_t pradulins_start(uint8_t node[PRADULINS_NODE_SIZE], uint64_t ttl, size_t max_seen, size_t history_len, size_t max_messages, uint32_t flags);
@@ -228,8 +260,8 @@ uint32_t pradulins_start(uint8_t node[PRADULINS_NODE_SIZE], uint64_t ttl, size_t
  * Admits the message at `index` of `body` (from 0), read in `edition`, where `verified` is the host's word on its signature ("senders", above), and `at` the reading
  * of the host's clock. The node drops the ids whose time is over, and then takes the message if its id is not seen.
  * values[0]: 1 where the message is new, and was stored; 0 where it is a duplicate. Both set the clock.
- * Refused: 40, 41, 42, 10, 1 to 7, 11, 20, 21, 22, 34, 23, 24 or 25, 26, 35, 36, 27, 28, 29, 30, 31, in this order. Where unsigned messages are allowed ("flags",
- * above), one with neither signature nor key meets none of 25, 26, 35, 36 and 27, whatever `verified` is.
+ * Refused: 40, 41, 42, 10, 1 to 7 and 14 to 16, 11, 20, 21, 22, 34, 23, 24 or 25, 26, 35, 36, 27, 28, 29, 30, 31, in this order (14 to 16 by a node that skips groups,
+ * here and below). Where unsigned messages are allowed ("flags", above), one with neither signature nor key meets none of 25, 26, 35, 36 and 27, whatever `verified` is.
  */
 uint32_t pradulins_admit(uint8_t node[PRADULINS_NODE_SIZE], uint8_t *seen_store, size_t seen_store_len, uint8_t *cache_store,
                          size_t cache_store_len, uint32_t edition, const uint8_t *body, size_t body_len, size_t index, bool verified, uint64_t at,
@@ -271,7 +303,7 @@ uint32_t pradulins_explain(const uint8_t node[PRADULINS_NODE_SIZE], const uint8_
 /*
  * Writes to `out` a body that requests what `body`, read in `edition`, offers and the node has not seen ("flags", above): one IWANT, each id once.
  * values[0]: how many bytes were written; 0 where there is nothing to ask for.
- * Refused: 40, 41, 42, 10, 1 to 7, 11, 12.
+ * Refused: 40, 41, 42, 10, 1 to 7 and 14 to 16, 11, 12.
  */
 uint32_t pradulins_ask(const uint8_t node[PRADULINS_NODE_SIZE], const uint8_t *seen_store, size_t seen_store_len, const uint8_t *cache_store,
                        size_t cache_store_len, uint32_t edition, const uint8_t *body, size_t body_len, uint8_t *out, size_t out_len,
@@ -285,8 +317,8 @@ uint32_t pradulins_ask(const uint8_t node[PRADULINS_NODE_SIZE], const uint8_t *s
  * `unwanted_len` is 0 there is none, wherever `unwanted` points to: pass `body, 0`, for example.
  *
  * values[0]: how many bytes were written; values[1]: how many messages these are; values[2]: how many cached ones were left out, to be requested again.
- * Refused: 40, 41, 42; 10, 1 to 7, 11 of `body`; 10, 1 to 7, 11 of `unwanted`; 12, where not even the first message that is wanted fits, with the bytes that it needs. A
- * place (1 to 7) counts from the start of the body that is refused, and 10 and 11 are of each body by itself; which of the two it is, pradulins_decode tells.
+ * Refused: 40, 41, 42; 10, 1 to 7 and 14 to 16, 11 of `body`; the same of `unwanted`; 12, where not even the first message that is wanted fits, with the bytes that it
+ * needs. A place (1 to 7) counts from the start of the body that is refused, and 10 and 11 are of each body by itself; which of the two it is, pradulins_decode tells.
  */
 uint32_t pradulins_serve(const uint8_t node[PRADULINS_NODE_SIZE], const uint8_t *seen_store, size_t seen_store_len, const uint8_t *cache_store,
                          size_t cache_store_len, uint32_t edition, const uint8_t *body, size_t body_len, const uint8_t *unwanted,
@@ -309,19 +341,19 @@ uint32_t pradulins_settings(const uint8_t node[PRADULINS_NODE_SIZE], uint64_t va
 uint32_t pradulins_state(const uint8_t node[PRADULINS_NODE_SIZE], const uint8_t *seen_store, size_t seen_store_len, const uint8_t *cache_store,
                          size_t cache_store_len, uint64_t values[PRADULINS_VALUES]);
 
-/* ---- bodies: each is read in the edition that `dialect` says */
+/* ---- bodies: each is read in the edition and the mode that `dialect` says; 14 to 16 are met where groups are skipped */
 
 /*
  * Writes `body` anew to `out`, in canonical bytes: what means the same gives the same bytes. They are never longer than the body.
  * values[0]: how many bytes were written.
- * Refused: 10, 1 to 7, 11, 12.
+ * Refused: 10, 1 to 7 and 14 to 16, 11, 12.
  */
 uint32_t pradulins_encode(uint32_t dialect, const uint8_t *body, size_t body_len, uint8_t *out, size_t out_len, uint64_t values[PRADULINS_VALUES]);
 
 /*
  * Writes to `out` the bytes that the signature of the message at `index` is made over. They are at most 14 bytes longer than the body.
  * values[0]: how many bytes were written.
- * Refused: 10, 1 to 7, 11, 20, 12.
+ * Refused: 10, 1 to 7 and 14 to 16, 11, 20, 12.
  */
 uint32_t pradulins_sign_bytes(uint32_t dialect, const uint8_t *body, size_t body_len, size_t index, uint8_t *out, size_t out_len,
                               uint64_t values[PRADULINS_VALUES]);
@@ -329,7 +361,7 @@ uint32_t pradulins_sign_bytes(uint32_t dialect, const uint8_t *body, size_t body
 /*
  * Writes to `out` the id of the message at `index`: its from and its seqno.
  * values[0]: how many bytes were written.
- * Refused: 10, 1 to 7, 11, 20, 21, 22, 23, 12.
+ * Refused: 10, 1 to 7 and 14 to 16, 11, 20, 21, 22, 23, 12.
  */
 uint32_t pradulins_message_id(uint32_t dialect, const uint8_t *body, size_t body_len, size_t index, uint8_t *out, size_t out_len,
                               uint64_t values[PRADULINS_VALUES]);
@@ -337,17 +369,18 @@ uint32_t pradulins_message_id(uint32_t dialect, const uint8_t *body, size_t body
 /*
  * Reads a body into a table of records, 20 numbers each (see above), in the order in which the body has them. `table_len` counts numbers.
  * values[0]: how many records were written; values[1]: 1 where the body has a control, which is no record itself; else 0.
- * Refused: 10, 1 to 7, 11, 12.
+ * Refused: 10, 1 to 7 and 14 to 16, 11, 12.
  */
 uint32_t pradulins_decode(uint32_t dialect, const uint8_t *body, size_t body_len, uint64_t *table, size_t table_len, uint64_t values[PRADULINS_VALUES]);
 
 /*
  * The top-level field at a place of a body. Start at 0 and go on at values[3].
  * values[0]: the field's number, 0 at the end (then nothing else is handed out); values[1]: its wire type; values[2]: the place after its tag;
- * values[3]: the place of the next field. What the field holds is not read further than to skip it, so the edition does not matter.
- * Refused: 10, 1 to 6.
+ * values[3]: the place of the next field. What the field holds is not read further than to skip it: of `dialect` the edition does not matter, and the mode does. Where
+ * groups are skipped, a whole group is one field, of type 3, and the next begins behind its end tag.
+ * Refused: 10, 1 to 6 and 14 to 16.
  */
-uint32_t pradulins_walk(const uint8_t *body, size_t body_len, size_t at, uint64_t values[PRADULINS_VALUES]);
+uint32_t pradulins_walk(uint32_t dialect, const uint8_t *body, size_t body_len, size_t at, uint64_t values[PRADULINS_VALUES]);
 
 /* ---- speaking first */
 
@@ -373,8 +406,8 @@ uint32_t pradulins_walk(const uint8_t *body, size_t body_len, size_t at, uint64_
 
 /*
  * Writes to `out` the RPC that the rows say. `records_len` counts numbers, as `table_len` of pradulins_decode does. `flags` are those of the gateways that shall admit
- * it: 0, or PRADULINS_ALLOW_UNSIGNED in a training mesh ("flags", above). What is written is read back as these rows, and each of its messages is admitted by a node
- * with these flags, if its signature verifies: what admission would refuse is not written.
+ * it ("flags", above): 0, or PRADULINS_ALLOW_UNSIGNED in a training mesh, for example. What is written is read back as these rows, and each of its messages is admitted by
+ * a node with these flags, if its signature verifies: what admission would refuse is not written.
  * values[0]: how many bytes were written; 0 where there are no rows.
  * Refused: 40 (flags), 42, 7, 11; then message by message 21, 22, 34, 23, 26, 35, 36, 28, 29, 30; then 13, 12. A message without a signature is 26 with 0; where
  * unsigned messages are allowed, one that has no key either is written as it is, and one with a key is 24. Beside 13 and 30 stands a length that stops at 2^64 - 1.
@@ -465,6 +498,9 @@ static inline const char *pradulins_refusal_text(uint32_t number)
     case PRADULINS_FIELD_OVERFLOW: return "a field passes the end";
     case PRADULINS_WIRE_TYPE: return "a wire type that is not supported";
     case PRADULINS_FIELD_NUMBER: return "a field number out of range";
+    case PRADULINS_END_GROUP: return "an end tag with no open group, or of another number";
+    case PRADULINS_GROUP_DEPTH: return "groups are more than 32 deep";
+    case PRADULINS_GROUP_OPEN: return "the body ends inside a group";
     case PRADULINS_UTF8: return "a topic is not UTF-8";
     case PRADULINS_BODY_TOO_LARGE: return "the body has above 65,536 bytes";
     case PRADULINS_TOO_MANY_RECORDS: return "the body has above 512 records";

@@ -6,7 +6,9 @@ the records by kind, so the order in which the body has them is found here by
 lengths. For `encode`, `sign` and `id` the oracle's `writes` tells all at once.
 Where a refusal stands in the body, which the Rust does not tell, is from places.py.
 The Rust has edition 1.1; bodies with the field that 1.2 adds to a control are made
-here, too, and what 1.2 says of them stands in editions.py.
+here, too, and what 1.2 says of them stands in editions.py. It refuses groups: bodies
+with these are made here, and what is said of them where they are skipped stands in
+groups.py.
 Everything random comes from one seeded `random.Random`.
 """
 
@@ -14,8 +16,8 @@ import itertools
 
 import wire
 from oracle import NUMBER, parse_decode
-from places import EDITION_ROWS, MORE_ROWS, PATHS, ROWS, TEXT_PATHS, V1_1, V1_2, find, with_place
-from wire import EDGES, MAX_BODY, MAX_CONTENT, PLACE, blob, damaged, edge_field, then_random, varint
+from places import EDITION_ROWS, GROUP_ROWS, MAX_OPEN, MORE_GROUP_ROWS, MORE_ROWS, PATHS, ROWS, TEXT_PATHS, V1_1, V1_2, find, with_place
+from wire import EDGES, MAX_BODY, MAX_CONTENT, PLACE, blob, damaged, edge_field, good_field, then_random, varint
 
 MAX_RECORDS = 512
 MAX_FROM = 64
@@ -507,3 +509,195 @@ def of_editions(r, count):
     some = itertools.islice(enumerated(), 0, None, 29)
     few = itertools.islice(long(r), 0, None, 7)
     return then_random(r, count, (declined(), declined_long(), named(), some, few, id_bodies(), backoff_bodies()), mostly)
+
+
+# --- groups ------------------------------------------------------------------------
+
+def start_tag(number):
+    return varint(number * 8 + 3)
+
+
+def end_tag(number):
+    return varint(number * 8 + 4)
+
+
+def group(number, inner=b""):
+    return start_tag(number) + inner + end_tag(number)
+
+
+def chain(numbers, inner=b""):
+    """Groups of these numbers, each in the one before it."""
+    for number in reversed(numbers):
+        inner = group(number, inner)
+    return inner
+
+
+def nested(inner, path):
+    """A message in fields of these numbers."""
+    for number in reversed(path):
+        inner = tagged(number, inner)
+    return inner
+
+
+GROUP_NUMBERS = (1, 1, 2, 3, 4, 5, 6, 7, 15, 16, 2047, 2048, 536870911)
+
+
+def other_end(r, number):
+    """What may stand where a group is to end: nothing, another end, two, one that is longer than it needs to be, or a start."""
+    return r.choice((b"", end_tag(number % 7 + 1), end_tag(number) * 2, bytes([number % 16 * 8 + 132, 0]), start_tag(number), end_tag(r.choice(GROUP_NUMBERS)), b"\x04"))
+
+
+def some_group(r, levels, spoil, parts):
+    """A group: in it fields as messages have them, right or wrong inside, and groups again. Where it is spoilt it may have another end, or a field that is none."""
+    number, inner = r.choice(GROUP_NUMBERS), []
+    for _ in range(r.choice((0, 0, 1, 1, 2, 3))):
+        how = r.randrange(8)
+        if how < 3 and levels:
+            inner.append(some_group(r, levels - 1, spoil, parts))
+        elif how < 6:
+            known = r.choice((RPC, *parts.values()))
+            field = r.choice(list(known))
+            inner.append(part(r, field, known[field], True, parts))
+        else:
+            inner.append(edge_field(r) if spoil and how == 7 else good_field(r))
+    return start_tag(number) + b"".join(inner) + (other_end(r, number) if spoil and r.randrange(4) == 0 else end_tag(number))
+
+
+def some_chain(r):
+    """Groups about the most that may stand open, with something in the innermost; now and then one of them does not end."""
+    numbers = [r.choice(GROUP_NUMBERS[:6]) for _ in range(MAX_OPEN + r.choice((-2, -1, -1, 0, 0, 0, 1, 1, 2)))]
+    inner = r.choice((b"", b"", good_field(r), edge_field(r), b"\x80", b"\x00", b"\x03", b"\x0e", b"\x0a\x05", tagged(3, group(1) * 3)))
+    whole = chain(numbers, inner)
+    return whole[:-r.choice((1, 2, 5, 32))] if r.randrange(6) == 0 else whole
+
+
+def among_groups(r, what, spoil, parts):
+    """The bytes of a message, with groups among its fields and among those of the messages in it."""
+    known, out = parts.get(what, RPC), []
+    for _ in range(r.choice((0, 1, 1, 2, 2, 3, 4))):
+        how = r.randrange(12)
+        if how < 4:
+            out.append(some_group(r, r.choice((0, 1, 1, 2, 3)), spoil, parts))
+        elif how == 4 and r.randrange(6) == 0:
+            out.append(some_chain(r))
+        elif how < 6:
+            out.append(edge_field(r) if spoil else other_field(r, known))
+        else:
+            field = r.choice(list(known))
+            out.append(tagged(field, among_groups(r, known[field], spoil, parts)) if known[field] in parts else part(r, field, known[field], spoil, parts))
+    return b"".join(out)
+
+
+def grouped_body(r):
+    """A body with groups in any of its messages: as they should be, with something wrong, or damaged."""
+    kind = r.randrange(10)
+    body = among_groups(r, "rpc", kind > 6, PARTS_IN[V1_2])
+    return damaged(r, body) if kind in (5, 6) else body
+
+
+def grouped_message(r):
+    """A message that often has an id, with groups among its fields."""
+    parts = [tagged(field, blob(r, n)) for field in (1, 3) for n in [r.choice(LENGTHS)] if n is not None]
+    parts += [part(r, field, PARTS["message"][field], False) for field in r.choices(range(1, 7), k=r.randrange(3))]
+    parts += [some_group(r, r.choice((0, 1, 2)), False, PARTS) for _ in range(r.choice((1, 1, 2)))]
+    r.shuffle(parts)
+    return tagged(2, b"".join(parts))
+
+
+def grouped_messages(r):
+    """Up to three messages, with groups in them and between them."""
+    return b"".join(r.choice((grouped_message, grouped_message, random_message, lambda r: some_group(r, 1, False, PARTS)))(r) for _ in range(r.randrange(1, 4)))
+
+
+# Tags of groups with the numbers 1, 2 and 3, in one byte and in two; others; a length; what is refused.
+GROUP_BYTES = [0x0B, 0x0C, 0x13, 0x14, 0x1B, 0x1C, 0x03, 0x04, 0x08, 0x0A, 0x12, 0x1A, 0x0E, 0x00, 0x01, 0x02, 0x80, 0x83, 0x84]
+FEW_BYTES = [0x0B, 0x0C, 0x13, 0x14, 0x0A, 0x01, 0x12]
+
+
+def group_rows():
+    for text, *_ in GROUP_ROWS + MORE_GROUP_ROWS:
+        yield bytes.fromhex(text)
+
+
+def deep_bodies():
+    """Groups about the most that may stand open, in each message: with all their ends, with one end less or more, and with each refusal in the innermost."""
+    for path in PATHS[V1_2]:
+        for depth in range(MAX_OPEN - 1, MAX_OPEN + 3):
+            for number in (1, 4, 16, 536870911):
+                yield nested(chain([number] * depth), path)
+            whole = chain([n % 7 + 1 for n in range(depth)])
+            yield from (nested(some, path) for some in (whole, whole[:-1], whole + b"\x0c", whole[:depth], whole + whole, b"\xa8\x01\x00" + whole + b"\xa8\x01\x00"))
+            for text in ("80", "80" * 9 + "02", "8000", "0a05", "0e", "00", "03", "04", "0c", "14", "0a00", "1a020b0c", "0d00"):
+                yield nested(chain([1] * depth, bytes.fromhex(text)), path)
+    # Depth begins anew in a message, and goes on behind one that is only skipped.
+    for depth in (1, MAX_OPEN - 1, MAX_OPEN):
+        for inner in (MAX_OPEN - 1, MAX_OPEN, MAX_OPEN + 1):
+            yield chain([2] * depth) + tagged(3, chain([1] * inner)) + chain([3] * depth)
+            yield chain([2] * depth, tagged(3, chain([1] * inner)))
+            yield tagged(3, chain([2] * depth) + tagged(4, chain([1] * inner) + tagged(2, chain([5] * inner))))
+
+
+def placed_groups():
+    """Each refusal in a group, in each message, behind a field that is taken and before one that is not; and a group that passes the end of its message."""
+    for path in PATHS[V1_2]:
+        for text in ("80", "80" * 9 + "02", "8000", "0a05", "0e", "0f", "00", "08", "0d00", "0c", "14", "0b", "0b0c", "0b0c0c", "13140c", "0c80", "1a80", "a80100"):
+            for inner in (bytes.fromhex(text), b"\x0b" + bytes.fromhex(text), b"\x0b" + bytes.fromhex(text) + b"\x0c", group(7) + bytes.fromhex(text)):
+                yield enclosed(b"\xa8\x01\x00" + inner, path)
+                yield nested(inner, path) + group(1)
+    for path in TEXT_PATHS:
+        text = tagged({(1,): 2, (2,): 4}.get(path, 1), b"t\xff")
+        for inner in (group(1, text), group(1) + text, group(1, text) + text, group(4, b"\x22") + text):
+            yield nested(inner, path)
+
+
+def group_bodies():
+    """Bodies with groups: the rows, all short ones of an alphabet, at the top and in every message; groups of known numbers and of unknown ones beside the fields
+    of each message; depths about the most, and each refusal in and about a group."""
+    yield from group_rows()
+    yield from each(GROUP_BYTES, 3)
+    yield from each(FEW_BYTES, 5, 4)
+    for path in PATHS[V1_2][1:]:
+        for inner in each(GROUP_BYTES, 2):
+            yield nested(inner, path)
+        for inner in each(FEW_BYTES, 3, 3):
+            yield nested(inner, path)
+            yield nested(inner, path) + b"\x0c"
+    for number in sorted({*GROUP_NUMBERS, *range(1, 20)}):
+        for inner in (b"", tagged(number, b"\xff"), counted(number, 1), group(number), group(number, group(number)), group(number + 1 if number < 2**29 - 1 else 1)):
+            for path in PATHS[V1_2]:
+                yield nested(group(number, inner), path)
+                yield nested(tagged(15, b"x") + group(number, inner) + tagged(1, b""), path)
+    yield from deep_bodies()
+    yield from placed_groups()
+    for inner in entries():
+        yield tagged(3, group(5, inner) + inner) + group(3, inner) + tagged(2, group(2, inner))
+
+
+def group_long():
+    """Groups about the largest size and the most records, which they are none of: one of many fields, many of few, one in another at every place."""
+    for size in (65535, 65536, 65537, MAX_CONTENT - 9):
+        n = size - 2
+        yield b"\x0b" + b"\x08\x00" * (n // 2) + b"\x09"[:n % 2] + b"\x0c"
+        yield b"\x0b" + b"\x08\x00" * (n // 2) + b"\x0a" * (n % 2) + b"\x0c"
+        yield group(1) * (size // 2) + b"\x0b" * (size % 2)
+        yield b"\x0b" * size
+        yield b"\x0b" + b"\x0a" + varint(size - 6) + bytes(size - 6) + b"\x0c"
+        yield tagged(2, group(1, b"\x08\x00" * ((size - 8) // 2)))
+        yield (chain([1] * MAX_OPEN) * 1025)[:size]
+        yield b"\x0b" * (MAX_OPEN - 1) + group(2) * ((size - 62) // 2) + b"\x0c" * (MAX_OPEN - 1)
+    for n in (511, 512, 513, 600):
+        yield b"\x0a\x00" * n + group(1, b"\x0a\x00" * n)
+        yield group(1, b"\x0a\x00" * n) + b"\x0a\x00" * (n - 1)
+        yield tagged(3, group(2, b"\x0a\x00" * n) + b"\x12\x00" * n)
+        yield tagged(2, (tagged(4, b"t") + group(4, tagged(4, b"u"))) * (n - 1))
+        yield b"\x0a\x00" * n + b"\x0b"
+        yield b"\x0a\x00" * n + b"\x0c"
+
+
+def of_groups(r, count):
+    """Bodies for both modes: all with groups that are fixed, some of the others, and random ones that mostly have groups."""
+    def mostly(r):
+        return r.choice((grouped_body, grouped_body, grouped_body, grouped_messages, random_body, declining_body))(r)
+    some = itertools.islice(enumerated(), 0, None, 97)
+    few = itertools.islice(long(r), 0, None, 11)
+    return then_random(r, count, (group_bodies(), group_long(), named(), placed(V1_2), declined_long(), some, few), mostly)

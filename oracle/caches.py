@@ -9,19 +9,20 @@ itself, so histories can stand one after the other in one input.
 
 `expected` takes an input as bytes. What the caches hold, and what a body says or
 why it is refused (1 to 7), is the Rust's answer; where in the body, places.py has
-found; in edition 1.2, which the Rust does not have, both are editions.py's. The limits that the Rust does not
+found; in edition 1.2 and where groups are skipped, which the Rust does not have, both are groups.py's. A message that has groups is
+put into the Rust's cache without them, and told with them. The limits that the Rust does not
 have (10, 11, 20 to 30, 33, 40) are the scope's and stand here, as does the form
 of the records; what a sender and its key must be (34 to 36) stands in peers.py.
 Everything random comes from one seeded `random.Random`.
 """
 
-import editions
+import groups
 import nodes
 import peers
-from bodies import BROKEN, MAX_RECORDS, PARTS, RPC, declining_body, many, other_field, random_message, refusal, tagged, within
+from bodies import BROKEN, MAX_RECORDS, PARTS, RPC, chain, declining_body, group, grouped_body, many, other_field, random_message, refusal, some_chain, some_group, tagged, within
 from oracle import hexed, parse_decode
 from peers import A, B, ECDSA, F, HASHES, KEYLESS, KEYS, LONGEST, NO_KEYS, NO_PEERS, RSA, SENDERS, identity, key_bytes, mismatch, peer_of
-from places import EDITION_ROWS, EDITIONS, MORE_ROWS, ROWS, V1_1, V1_2, find, with_place
+from places import EDITION_ROWS, EDITIONS, GROUP_ROWS, GROUPS, MORE_GROUP_ROWS, MORE_ROWS, OF_GROUPS, ROWS, V1_1, V1_2, find, skips_groups, with_place
 from records import Records
 from wire import MAX_BODY, MAX_CONTENT, TOP, blob, damaged, edge_field, header, then_random, varint
 
@@ -42,11 +43,11 @@ SIGNATURE = 64
 MAX_TOPICS = 4
 MAX_TOPIC = 1024
 MAX_MESSAGE = 4096
-MAX_FLAGS = 3
+MAX_FLAGS = nodes.MAX_FLAGS
 
 # Every refusal that the program can show.
 REFUSALS = {"insert": {33, 40}, "contains": {33}, "cache": {40}, "gossip": {29},
-            "put": {1, 2, 3, 4, 5, 6, 7, 10, 11, 20, 21, 22, 23, 24, 25, 26, 28, 29, 30, 34, 35, 36}}
+            "put": {1, 2, 3, 4, 5, 6, 7, *OF_GROUPS, 10, 11, 20, 21, 22, 23, 24, 25, 26, 28, 29, 30, 34, 35, 36}}
 
 
 # --- records -------------------------------------------------------------------
@@ -79,8 +80,8 @@ def steps_of(data):
 # --- the lines, from the Rust's answers ------------------------------------------
 
 def unfit(message, flags=0):
-    """Why the Rust's message may not be put: the scope's 21 to 30 without 27, and 34 to 36, or None. With the flag 1 one that has neither signature nor
-    key may."""
+    """Why the Rust's message may not be put: the scope's 21 to 30 without 27, and 34 to 36, or None. Where unsigned messages are allowed, one that has neither
+    signature nor key may."""
     sender, key = (None if message[name] is None else bytes.fromhex(message[name]) for name in ("from", "key"))
     size = {name: None if message[name] is None else len(message[name]) // 2 for name in ("raw", "from", "seqno", "signature")}
     topics = [len(topic) // 2 for topic in message["topic_ids"]]
@@ -94,7 +95,7 @@ def unfit(message, flags=0):
         return "refused 23"
     if size["signature"] is None and key is not None:
         return "refused 24"
-    if size["signature"] is None and flags % 2 != 1:
+    if size["signature"] is None and not nodes.allows_unsigned(flags):
         return "refused 25"
     if size["signature"] not in (None, SIGNATURE):
         return "refused 26 %d" % size["signature"]
@@ -113,27 +114,50 @@ def put_of(step):
     return {"put": (V1_1, *step[1:]), "put_in": step[1:]}.get(step[0])
 
 
-def refused_in_1_2(body):
-    """Why a body is refused in 1.2, or None."""
-    try:
-        editions.read(body, V1_2)
-    except editions.Refused as why:
-        return str(why)
-    return None
+class Put:
+    """What is made of a put, all texts: why it is refused, or None; the message's id and its bytes; and the body, the index and the bytes by which the Rust's cache
+    knows it."""
+
+    def __init__(self, refused, message=None, body=None, index=0, known=None):
+        self.refused = refused
+        if not refused:
+            self.id, self.raw, self.body, self.index, self.known = message["from"] + message["seqno"], message["raw"], body, index, known or message["raw"]
+
+
+def as_the_rust_has_it(message):
+    """A message of groups.py in the form of the Rust's answer."""
+    def shown(value):
+        return None if value is None else value.hex()
+    return {"raw": message.raw.hex(), "topic_ids": [topic.hex() for topic in message.each("topic")],
+            **{name: shown(message.last(name)) for name in ("from", "data", "seqno", "signature", "key")}}
+
+
+def without_groups(message):
+    """The known fields of a message alone."""
+    return b"".join(tagged({"from": 1, "data": 2, "seqno": 3, "topic": 4, "signature": 5, "key": 6}[name], value) for name, value in message.fields)
 
 
 def judged(edition, index, body, told, flags):
-    """(why a put is refused or None, id, the message's bytes), all texts, from the oracle's answer to `decode`. What 1.2 accepts the Rust does, too, and a message
-    is the same in both editions."""
-    refused = with_place(refusal(body, told), find, body) if edition == V1_1 else refused_in_1_2(body)
+    """What is made of a put, from the oracle's answer to `decode`. What 1.2 accepts the Rust does, too, and a message is the same in both editions; where groups are
+    skipped, the Rust is not asked what a body says."""
+    dialect = edition | flags & GROUPS
+    try:
+        rpc = None if dialect == V1_1 else groups.read(body, dialect)
+        refused = None if rpc else with_place(refusal(body, told), find, body)
+    except groups.Refused as why:
+        refused = str(why)
     if refused:
-        return refused, None, None
-    messages = parse_decode(told)[3]["publish"]
+        return Put(refused)
+    read = rpc.each("publish") if skips_groups(dialect) else []
+    messages = list(map(as_the_rust_has_it, read)) if skips_groups(dialect) else parse_decode(told)[3]["publish"]
     if index >= len(messages):
-        return "refused 20 %d" % len(messages), None, None
-    message = messages[index]
-    refused = unfit(message, flags)
-    return (refused, None, None) if refused else (None, message["from"] + message["seqno"], message["raw"])
+        return Put("refused 20 %d" % len(messages))
+    if refused := unfit(messages[index], flags):
+        return Put(refused)
+    if not skips_groups(dialect):
+        return Put(None, messages[index], body, index)
+    bare = without_groups(read[index])
+    return Put(None, messages[index], tagged(2, bare), 0, bare.hex())
 
 
 def without_rust(step, rows, put):
@@ -145,7 +169,7 @@ def without_rust(step, rows, put):
         return "refused 33 %d" % len(step[-1])
     if call == "gossip" and len(step[2]) > MAX_TOPIC:
         return "refused 29 %d" % len(step[2])
-    return put[0] if put else None
+    return put.refused if put else None
 
 
 def commands(step, put):
@@ -155,7 +179,7 @@ def commands(step, put):
         # From 0 on the unchanged file answers, else the copy whose arrival number can be set.
         return ["mc_new %d %d" % step[1:3] + (" %d" % step[3] if step[3] else "")]
     if put:
-        return ["mc_get " + put[1], "mc_put %s %d" % (hexed(step[-1]), step[-2])]
+        return ["mc_get " + put.id, "mc_put %s %d" % (hexed(put.body), put.index)]
     if call == "clean":
         return ["seen_gc %d" % step[1], "seen_dump"]
     if call == "insert":
@@ -168,7 +192,7 @@ def commands(step, put):
 
 
 def answer(step, told, put, kept):
-    """What the oracle told of a step, as the program says it. `kept` has the bytes of the last message stored under each id."""
+    """What the oracle told of a step, as the program says it. `kept` has the last put that was stored under each id."""
     call, words = step[0], told[0].split(" ")
     if call in ("seen", "cache", "flagged", "shift", "insert", "contains"):
         assert told[0] in {"insert": ("fresh", "held"), "contains": ("yes", "no")}.get(call, ("ok",)), told
@@ -180,11 +204,11 @@ def answer(step, told, put, kept):
         assert words[0] == "some" or told == ["none"], told
         return words[-1]
     if put:
-        assert told[1] == "ok " + put[1], told
+        assert told[1] == "ok " + put.id, told
         if words[0] == "some":
             return "held"
         assert told[0] == "none", told
-        kept[put[1]] = put[2]
+        kept[put.id] = put
         return "stored"
     if call == "gossip":
         if told == ["bad topic utf8"]:
@@ -193,8 +217,9 @@ def answer(step, told, put, kept):
         return " ".join(words[1:2] + ["=" + name for name in words[2:]])
     if told == ["none"]:
         return "-"
-    assert words == ["some", kept[step[1].hex()]], told
-    return "=" + words[1]
+    put = kept[step[1].hex()]
+    assert words == ["some", put.known], told
+    return "=" + put.raw
 
 
 def expected(oracle, data):
@@ -436,12 +461,12 @@ def around(r):
     return within(r, {1: "sub", 3: "control"}, False)
 
 
-def cut(data):
+def cut(data, dialect=V1_1):
     """The fields of a body or of a message, as (number, wire type, its bytes), and last what cannot be read, as (0, 0, bytes)."""
     at = 0
     try:
-        for field, wire, place, content in nodes.fields(data):
-            end = place + len(content) if wire in (1, 5) else nodes.number_at(data, place)[1] + (len(content) if wire == 2 else 0)
+        for field, wire, place, content in nodes.fields(data, dialect):
+            end = place + len(content) if wire in (1, 3, 5) else nodes.number_at(data, place)[1] + (len(content) if wire == 2 else 0)
             yield field, wire, data[at:end]
             at = end
     except nodes.Refused:
@@ -471,6 +496,21 @@ def loosened(r, body):
             piece = tagged(2, bare(raw) if how < 7 else bare(raw, 5) if how == 7 else bare(raw, 5) + tagged(5, b""))
         out += piece
     return out
+
+
+def with_groups(r, body):
+    """A body with groups between its fields, and between those of its messages; now and then one that is spoilt, or as deep as may be."""
+    def among(pieces):
+        for piece in pieces:
+            for _ in range(r.choice((0, 0, 1, 1, 2))):
+                yield some_chain(r) if r.randrange(30) == 0 else some_group(r, r.choice((0, 1, 2)), r.randrange(40) == 0, PARTS)
+            yield piece
+    out = []
+    for field, wire, piece in cut(body):
+        if (field, wire) == (2, 2):
+            piece = tagged(2, b"".join(among(inner for *_, inner in cut(next(nodes.fields(piece))[3]))))
+        out.append(piece)
+    return b"".join(among(out))
 
 
 def some_put(r, who, topics):
@@ -570,7 +610,7 @@ def flagged_history(r):
     for step in cache_history(r):
         if step[0] == "cache":
             steps.append(("flagged", *step[1:], r.choice((0, 1, 1, 1))))
-            steps += [("flagged", *step[1:], r.choice((4, 7, 256, 257, 65535)))] if r.randrange(4) == 0 else []
+            steps += [("flagged", *step[1:], r.choice((4, 5, 256, 257, 65535)))] if r.randrange(4) == 0 else []
         else:
             steps.append((*step[:2], loosened(r, step[2])) if step[0] == "put" and r.randrange(4) else step)
     return steps
@@ -627,8 +667,22 @@ def editioned(r, step):
     return ("put_in", r.choice(EDITIONS), step[1], body)
 
 
+def grouped_history(r):
+    """A history of the message cache whose settings mostly skip groups, and whose bodies mostly have some; many messages have no signature."""
+    steps = []
+    for step in flagged_history(r) if r.randrange(2) else cache_history(r):
+        if step[0] in ("cache", "flagged"):
+            step = ("flagged", *step[1:4], flags_of(step) | GROUPS * (r.randrange(6) > 0))
+        elif step[0] == "put" and len(step[2]) < MAX_BODY - 2000 and r.randrange(5):
+            step = (*step[:2], with_groups(r, step[2]) if r.randrange(12) else r.choice((step[2] + grouped_body(r), bytes.fromhex(r.choice(GROUP_ROWS + MORE_GROUP_ROWS)[0]) + step[2])))
+            step = step if len(step[2]) < MAX_CONTENT - 3 else ("shift",)
+        steps.append(step)
+    return steps
+
+
 def some_history(r):
-    steps = flagged_history(r) if r.randrange(4) == 0 else history(r)
+    how = r.randrange(8)
+    steps = flagged_history(r) if how < 2 else grouped_history(r) if how < 4 else history(r)
     return [editioned(r, step) for step in steps] if r.randrange(4) == 0 else steps
 
 
@@ -857,13 +911,13 @@ def placed_named():
 def flag_named():
     """Flags among the settings; messages without a signature; both forms of a message, whose id is seen under two marks and cached once."""
     x, u, look = put_step(X), put_step(U), looks([NAME], [b"t"], 1)
-    for flags in (0, 1, 4, 7, 255, 256, 257, 65535):
+    for flags in (0, 1, 4, 5, 255, 256, 257, 65535):
         yield [("cache", 2, 4, 0), x, ("flagged", 2, 4, 7, flags), u, *look, x, *look]
     for history, most in BAD_SETTINGS[:4] + BAD_SETTINGS[7:9]:
         yield [("flagged", 2, 4, 0, 1), ("flagged", history, most, 0, 1), ("flagged", history, most, 0, 4), u, *look]
     # Refused settings leave the flags that were there.
     yield [("flagged", 2, 4, 0, 1), u, ("flagged", 2, 4, 0, 4), ("cache", 0, 4, 0), put_step(without(x_with(seqno=[b"2"]), 5)), *look,
-           ("flagged", 2, 4, 0, 0), ("flagged", 2, 4, 0, 7), u, x, *look, ("flagged", 2, 4, 0, 1), u, ("cache", 2, 4, 0), u, x, *look]
+           ("flagged", 2, 4, 0, 0), ("flagged", 2, 4, 0, 5), u, x, *look, ("flagged", 2, 4, 0, 1), u, ("cache", 2, 4, 0), u, x, *look]
     for flags in (0, 1):
         yield [("flagged", 2, 4, 0, flags)] + [step for change, *_ in peers.SHORT_UNSIGNED_ROWS for step in (put_step(x_with(**change)), ("gossip", 1, b"t"))]
         yield [("flagged", 2, 64, 0, flags)] + [put_step(x_with(from_=[who], signature=[])) for who in SENDERS + HASHES + KEYLESS + NO_PEERS] \
@@ -894,6 +948,35 @@ def edition_named(few=False):
     yield [("cache", 2, 4, 0), ("put_in", V1_2, 0, x), ("put_in", V1_1, 0, x), *look]
 
 
+# X with groups: behind its fields, before them, between them; with fields of X in them, others than its own; as deep as may be.
+GROUPED = [plain(X) + group(1), group(4, tagged(4, b"u")) + plain(X), plain(X[:2]) + group(1, tagged(1, B)) + plain(X[2:]),
+           plain(X) + group(536870911, plain(x_with(seqno=[b"9"], topic=[b"\xff"]))), group(2, group(2)) + plain(X) + group(3, tagged(3, b"9")), plain(X) + chain([5] * 32)]
+# The same with what is refused in the message itself, and with the number.
+SPOILT = [(plain(X) + b"\x0b", 16), (plain(X) + b"\x0c", 14), (b"\x0b" + plain(X) + b"\x14", 14), (plain(X) + chain([5] * 33), 15), (chain([5] * 33)[:-1] + plain(X), 15),
+          (plain(X) + b"\x0b\x04\x0c", 6), (plain(X) + b"\x0b\x0e\x0c", 5), (plain(X) + b"\x0b\x80", 1)]
+
+
+def group_named(few=False):
+    """Puts where groups are skipped and where they are refused: the scope's rows, alone and beside a message; messages with groups; both flags; about the longest message,
+    and but where there are to be few bytes about the longest body."""
+    x, u, look = put_step(X)[2], put_step(U)[2], looks([NAME], [b"t", b"u"], 1)
+    rows = [bytes.fromhex(text) for text, *_ in GROUP_ROWS + ([] if few else MORE_GROUP_ROWS)]
+    for flags in (0, GROUPS, nodes.MAX_FLAGS):
+        for edition in EDITIONS:
+            yield [("flagged", 2, 4, 0, flags)] + [("put_in", edition, 0, body) for row in rows for body in ((row,) if few else (row, row + x, x + row))] + [("put_in", edition, 0, x), *look]
+        for raw in GROUPED:
+            yield [("flagged", 2, 4, 0, flags), ("put", 0, tagged(2, raw)), *look, ("put", 0, x), *look]
+        yield [("flagged", 2, 4, 0, flags), *[("put", 0, tagged(2, raw)) for raw, _ in SPOILT], ("put", 0, tagged(2, plain(U) + group(5, tagged(5, bytes(SIGNATURE))))), *look]
+        yield [("flagged", 2, 4, 0, flags), ("put", 0, group(2, x) + u), ("put", 1, group(2, x) + x), ("put", 0, group(2, x)), ("put", 0, group(2, x) + x + group(1)), *look]
+        for size in (MAX_MESSAGE - 1, MAX_MESSAGE, MAX_MESSAGE + 1):
+            yield [("flagged", 2, 4, 0, flags), ("put", 0, tagged(2, plain(X) + group(1, tagged(2, bytes(size - 112 - 5))))), ("gossip", 1, b"t")]
+        for size in (MAX_BODY - 1, MAX_BODY, MAX_BODY + 1) if not few else ():
+            yield [("flagged", 2, 4, 0, flags), ("put", 0, x + b"\x0b" + b"\x08\x00" * ((size - 116) // 2) + b"\x08"[:size % 2] + b"\x0c"), *look]
+    # Settings anew: the mode is that of the last that were taken.
+    grouped = ("put", 0, tagged(2, GROUPED[0]))
+    yield [("cache", 2, 4, 0), grouped, ("flagged", 2, 4, 0, GROUPS), grouped, ("flagged", 2, 4, 0, 6), put_step(X), *look, ("cache", 0, 4, 0), *look, ("cache", 2, 4, 0), grouped, *look]
+
+
 def named():
     """The edges of every call, each refusal, and both parts beside each other."""
     yield from seen_named()
@@ -905,4 +988,4 @@ def named():
 
 
 def histories(r, count):
-    return then_random(r, count, (named(), topic_named(), placed_named(), flag_named(), edition_named()), some_history)
+    return then_random(r, count, (named(), topic_named(), placed_named(), flag_named(), edition_named(), group_named()), some_history)

@@ -10,7 +10,8 @@ does not, and that keeps nothing but the last id, so that nothing is a duplicate
 signature check that says the same word, and with the same leave to be unsigned. A number here and a name there are the same
 answer: 21 MissingFrom, 22 and 34 InvalidFrom, 23 InvalidSeqno, 24 KeyWithoutSignature, 25 MissingSignature, 26 InvalidSignatureLength,
 35 InvalidKey, 36 KeyPeerIdMismatch, 27 SignatureInvalid; and where it is taken, the mark under which its id is seen, and whether the Rust
-says that it is signed. Every other pair must be on the list (docs/DIFFERENCES.md). The model of nodes.py is compared with the program, too.
+says that it is signed. Every other pair must be on the list (docs/DIFFERENCES.md). The model of nodes.py is compared with the program, too; and the same messages
+with groups among their fields, on nodes that skip groups: what is answered of one is what is answered of the message without them, unless it is then too long.
 Prints the counts, the list as it was met with the shortest message of each, and the first differences; the exit status is 0 where there is
 none that is not on the list and each on the list was met (those of ten bytes only where the oracle is built with the published crate
 multihash).
@@ -22,11 +23,13 @@ import sys
 import tempfile
 
 import admissions
+import bodies
 import states
 from compare_decode import run
 from compare_wire import SHOWN, arguments
-from nodes import marked
+from nodes import MAX_MESSAGE, marked
 from oracle import Oracle
+from places import GROUPS
 from traces import admit
 
 CHUNK = 20000
@@ -56,9 +59,32 @@ def printed(binary, cases, word, flags, folder):
     return [answered(lines[at:at + 3]) for at in range(1, len(steps), 3)]
 
 
+def with_groups(r, case):
+    """A message alone, with groups among its known fields; other fields are left out. It has no more than the longest has, if it had not."""
+    _, _, raw, known = case
+    parts = [bodies.tagged(*part) for part in known]
+    for _ in range(r.choice((1, 1, 2))):
+        parts.insert(r.randrange(len(parts) + 1), bodies.some_group(r, r.choice((0, 1, 2)), False, bodies.PARTS))
+    made = b"".join(parts)
+    made = made if len(raw) > MAX_MESSAGE or len(made) <= MAX_MESSAGE else raw
+    return bodies.tagged(2, made), 0, made, known
+
+
+def look_at_groups(binary, r, cases, ours, folder):
+    """The first differences of messages with groups from those without."""
+    grouped = [with_groups(r, case) for case in cases]
+    for (word, flags), answers in ours.items():
+        for (_, _, raw, known), (*_, made, _), bare, told in zip(cases, grouped, answers, printed(binary, grouped, word, flags | GROUPS, folder)):
+            # A message whose unknown fields alone made it too long is shorter now.
+            wanted = admissions.modelled(made, known, word, flags) if len(raw) > MAX_MESSAGE else bare
+            if told != wanted:
+                yield len(made), made.hex(), "word %d, flags %d: %s without groups" % (word, flags | GROUPS, wanted), str(told)
+
+
 def main():
     given = arguments(__doc__, COUNT, "states")
     beside, n, unlike = admissions.Beside(), 0, []
+    r = random.Random(given.seed + 1)
     source = admissions.admits(random.Random(given.seed), given.count)
     with tempfile.TemporaryDirectory() as folder, Oracle() as oracle:
         multihash = oracle.ask("about").rpartition("multihash=")[2]
@@ -70,6 +96,7 @@ def main():
                     model = admissions.modelled(raw, known, word, flags)
                     if told != model:
                         unlike.append((len(raw), raw.hex(), "word %d, flags %d: %s by the model" % (word, flags, model), str(told)))
+            unlike += look_at_groups(given.binary, r, chunk, ours, folder)
             places = itertools.cycle(range(len(chunk)))
             for place, ((*_, raw, known), word, flags, rust) in zip(places, admissions.verified(oracle, chunk)):
                 beside.look(raw, known, word, flags, ours[word, flags][place], rust)

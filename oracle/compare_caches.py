@@ -23,6 +23,7 @@ import time
 
 import caches
 import peers
+import places
 import wire
 from compare_decode import run
 from compare_wire import SHOWN, arguments
@@ -143,11 +144,24 @@ def endings():
     yield "senders", caches.records([("cache", 1, 0, 0)] + [caches.put_step(caches.x_with(**change)) for change, _ in rows]), \
         "1 cache ok\n" + "".join("%d put %s\n" % (n, told.replace("new", "stored")) for n, (_, told) in enumerate(rows, 2))
     rows = peers.UNSIGNED_ROWS
-    for flags in (0, 1):
+    for flags in (0, 1, 2, 3):
         yield "unsigned messages, flags %d" % flags, caches.records(
             [("flagged", 1, 0, 0, flags)] + [caches.put_step(caches.x_with(**change)) for change, *_ in rows]), \
-            "1 cache ok\n" + "".join("%d put %s\n" % (n, row[1 + flags].replace("new", "stored")) for n, row in enumerate(rows, 2))
-    for flags in (4, 7, 256, 65535):
+            "1 cache ok\n" + "".join("%d put %s\n" % (n, row[1 + flags % 2].replace("new", "stored")) for n, row in enumerate(rows, 2))
+    # Groups: of the rows that are taken two have a message, which may not be put.
+    for flags in (0, 2):
+        rows = [(text, both[flags > 0] or {"12020b0c": "refused 21", "12080a01420b0a01410c": "refused 34"}.get(text, "refused 20 0")) for text, *both in places.GROUP_ROWS]
+        for edition in (0, 1):
+            yield "groups, flags %d" % flags, caches.records([("flagged", 1, 1, 0, flags)] + [("put_in", edition, 0, bytes.fromhex(text)) for text, _ in rows]), \
+                "1 cache ok\n" + "".join("%d put %s\n" % (n, told) for n, (_, told) in enumerate(rows, 2))
+    raw = caches.GROUPED[0]
+    grouped, get = ("put", 0, caches.tagged(2, raw)), ("get", caches.NAME)
+    yield "a message with a group", caches.records([("flagged", 1, 1, 0, 2), grouped, caches.put_step(caches.X), get, ("cache", 1, 1, 0), grouped, caches.put_step(caches.X), get]), \
+        "1 cache ok\n2 put stored\n3 put held\n4 get =%s\n5 cache ok\n6 put refused 5 3 113 at 115 in 2\n7 put stored\n8 get =%s\n" % (raw.hex(), raw[:-2].hex())
+    for raw, number in caches.SPOILT:
+        beside = {6: " 0 113 at 115 in 2", 5: " 6 114 at 116 in 2", 1: " at 115 in 2"}.get(number, "")
+        yield "a message with a group, refused %d" % number, caches.records([("flagged", 1, 1, 0, 2), ("put", 0, caches.tagged(2, raw))]), "1 cache ok\n2 put refused %d%s\n" % (number, beside)
+    for flags in (4, 5, 256, 65535):
         yield "flags %d" % flags, caches.records([("flagged", 1, 1, 0, flags), ("shift",)]), "1 cache refused 40\nbad\n"
     u, x = caches.put_step(caches.U), caches.put_step(caches.X)
     yield "both forms", caches.records([("flagged", 1, 1, 0, 1), u, x, ("get", caches.NAME), ("flagged", 1, 1, 0, 1), x, u, ("get", caches.NAME)]), \

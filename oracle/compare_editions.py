@@ -147,19 +147,19 @@ def endings():
         yield "an id, %s" % dialect, wire.record(("id", message, 0), dialect), "1 id 2 4142\n"
     for call, kind in wire.IN_DIALECT.items():
         least = 1 + wire.PLACE.get(call, 0)
-        for dialect in (2, 3, 127, 128, 254, 255):
+        for dialect in (4, 5, 6, 127, 128, 254, 255):
             yield "%s in dialect %d" % (call, dialect), wire.record(("encode", b"", 0)) + wire.record((call, b"", 0), dialect), "1 encode 0\nbad\n"
         for n in range(least):
             for byte in (b"\x00", b"\x01"):
                 yield "%s with %d bytes" % (call, n), wire.header(n, kind) + byte * n + wire.header(0, 2), "bad\n"
         for dialect in (V1_1, V1_2):
-            empty = {"decode": "ok 0 plain", "encode": "0"}.get(call, "refused 20 0")
+            empty = {"decode": "ok 0 plain", "encode": "0", "walk": "end"}.get(call, "refused 20 0")
             yield "%s of an empty body" % call, wire.record((call, b"", 0), dialect), "1 %s %s\n" % (call, empty)
             content = bytes([dialect]) + bytes(most - 1)
             yield "%s, the longest content" % call, wire.header(most, kind) + content, "1 %s refused 10 %d\n" % (call, most - least)
         yield "%s, a longer one" % call, wire.header(most + 1, kind) + bytes(most + 1), "long\n"
         yield "%s, cut" % call, wire.header(4, kind) + bytes(3), "bad\n"
-    for kind in (12, 20, 25, 26, 0x0115, 0x1500):
+    for kind in (12, 20, 26, 27, 0x0115, 0x1500):
         yield "kind %d" % kind, wire.header(3, kind) + bytes(3), "bad\n"
     body = bytes.fromhex("1a072a030a01412200")
     yield "one after the other", b"".join(wire.record(("encode", body, 0), dialect) for dialect in (V1_2, None, V1_1, V1_2)), \

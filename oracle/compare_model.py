@@ -7,10 +7,12 @@ Two parts of nodes.py are held to the Rust: what it reads in a body, with every 
 and its values (10 and 11 are the scope's own), and what the node keeps. On the same bodies
 the finder of places.py is held to it: it must find a refusal where the Rust has one, with
 the same number, and at the Rust's own offset from where its message starts. In edition 1.2, which the
-Rust does not have, both are held to editions.py, and the Rust to that in 1.1. For the
+Rust does not have, both are held to editions.py, and the Rust to that in 1.1; where groups are skipped, which the
+Rust refuses, both are held to groups.py. For the
 second part the same histories are played on a node that keeps nothing itself but asks the
 Rust's caches; every line is compared. They are played again where unsigned messages are allowed, with many messages
-that have no signature; then the id under which a message is seen is the Rust's, too, by whether its `verify` says that it is signed. Third, what is a key and a peer id (peers.py) on those of keys.py,
+that have no signature; then the id under which a message is seen is the Rust's, too, by whether its `verify` says that it is signed. And again where groups are skipped,
+with groups in most bodies; of a message with groups the Rust is asked about the one without them. Third, what is a key and a peer id (peers.py) on those of keys.py,
 and what admission answers beside the Rust's `verify` on messages of admissions.py, with its list of
 differences. The histories are the fixed ones of traces.py and
 --count random ones, the bodies those of bodies.py, with ten random ones for each random
@@ -27,6 +29,7 @@ import sys
 import admissions
 import bodies
 import editions
+import groups
 import keys
 import nodes
 import places
@@ -37,7 +40,7 @@ from compare_caches import first_difference, line_at
 from compare_trace import shown, what
 from compare_wire import SHOWN
 from oracle import Oracle, hexed, parse_decode
-from places import V1_1, V1_2
+from places import GROUPS, V1_1, V1_2, skips_groups
 from programs import build
 
 CHUNK = 4000
@@ -64,7 +67,10 @@ class RustNode(nodes.Node):
         self.tell("seen_gc %d" % now, "ok")
 
     def form(self, body, index, name):
-        told = self.oracle.ask("verify %s %d %d" % (hexed(body), index, self.flags)).split(" ")
+        if skips_groups(self.flags):
+            _, known = nodes.Body(body, self.spoken(V1_1)).messages[index]
+            body, index = bodies.tagged(2, b"".join(bodies.tagged(*part) for part in known)), 0
+        told = self.oracle.ask("verify %s %d %d" % (hexed(body), index, self.flags % 2)).split(" ")
         ids = dict(word.split("=") for word in self.oracle.ask("ids %s %d" % (hexed(body), index)).split(" ")[1:])
         assert ids["id"] == name.hex(), (ids, name)
         # Keys that it has no signatures for are on the list of differences: it refuses such a message for its signature.
@@ -92,10 +98,10 @@ class RustNode(nodes.Node):
         return list(map(bytes.fromhex, told[2:])) if told[0] == "ok" else []
 
 
-def read(body, edition=V1_1):
+def read(body, dialect=V1_1):
     """What the model reads, in the form of the Rust's answer."""
     try:
-        got = nodes.Body(body, edition)
+        got = nodes.Body(body, dialect)
     except nodes.Refused as why:
         return " ".join(["refused"] + list(map(str, why.args)))
     messages = []
@@ -105,10 +111,10 @@ def read(body, edition=V1_1):
     return got.records, messages, *([one.hex() for one in names] for names in (got.have, got.want, got.dont))
 
 
-def other_read(body, edition):
-    """The same by the model of editions."""
+def other_read(body, dialect):
+    """The same by the model of editions and groups."""
     try:
-        rpc = editions.read(body, edition)
+        rpc = groups.read(body, dialect)
     except editions.Refused as why:
         return "refused " + " ".join(map(str, (why.number, *why.values)))
     messages = [[one.raw.hex(), [topic.hex() for topic in one.each("topic")]] + [None if part is None else part.hex() for part in map(one.last, FIELDS)]
@@ -130,7 +136,7 @@ def rust_read(body, told):
 
 def placed(expected, place):
     """Whether the finder of places has what the Rust has: a refusal 1 to 7, or none of these."""
-    refused = isinstance(expected, str) and int(expected.split(" ")[1]) in places.OF_A_BODY
+    refused = isinstance(expected, str) and int(expected.split(" ")[1]) in (*places.OF_A_BODY, *places.OF_GROUPS)
     return places.agrees(expected, place) if refused else place is None
 
 
@@ -142,8 +148,11 @@ def some_bodies(r, count):
     yield from itertools.islice(bodies.declined(), r.randrange(SHORT), None, SHORT)
     yield from bodies.declined_long()
     yield from (bytes.fromhex(text) for text, *_ in places.EDITION_ROWS)
+    yield from bodies.group_rows()
+    yield from itertools.islice(bodies.group_bodies(), r.randrange(SHORT), None, SHORT)
+    yield from bodies.group_long()
     for _ in range(10 * count):
-        yield r.choice((bodies.random_body, bodies.random_body, bodies.messages_body, bodies.declining_body))(r)
+        yield r.choice((bodies.random_body, bodies.random_body, bodies.messages_body, bodies.declining_body, bodies.grouped_body, bodies.grouped_messages))(r)
 
 
 def compare_bodies(oracle, r, count, counts, differ):
@@ -160,15 +169,16 @@ def compare_bodies(oracle, r, count, counts, differ):
 
 
 def compare_editions(body, rust, counts, differ):
-    """The two models and the finder of places, in 1.2; and the Rust and the other model."""
+    """The two models and the finder of places, in 1.2 and where groups are skipped; and the Rust and the other model."""
     if other_read(body, V1_1) != rust:
         differ.append((["body in 1.1 " + body[:200].hex()], rust, other_read(body, V1_1)))
-    expected, got = other_read(body, V1_2), read(body, V1_2)
-    counts["body in 1.2 " + (" ".join(expected.split(" ")[:2]) if isinstance(expected, str) else "read")] += 1
-    if expected != got:
-        differ.append((["body in 1.2 " + body[:200].hex()], expected, got))
-    if len(body) <= nodes.MAX_BODY and not placed(expected, places.find(body, V1_2)):
-        differ.append((["place in 1.2 in " + body[:200].hex()], expected, places.find(body, V1_2)))
+    for dialect, name in ((V1_2, "1.2"), (V1_1 | GROUPS, "1.1 with groups"), (V1_2 | GROUPS, "1.2 with groups")):
+        expected, got = other_read(body, dialect), read(body, dialect)
+        counts["body in %s %s" % (name, " ".join(expected.split(" ")[:2]) if isinstance(expected, str) else "read")] += 1
+        if expected != got:
+            differ.append((["body in %s %s" % (name, body[:200].hex())], expected, got))
+        if len(body) <= nodes.MAX_BODY and not placed(expected, places.find(body, dialect)):
+            differ.append((["place in %s in %s" % (name, body[:200].hex())], expected, places.find(body, dialect)))
 
 
 def compare_history(oracle, steps, flags, counts, differ):
@@ -196,6 +206,10 @@ def compare_histories(oracle, r, count, counts, differ):
     random_ones = (traces.some_history(r) for _ in range(count))
     for steps in itertools.chain(traces.named(), (traces.loosely(r, steps) for steps in itertools.chain(traces.named(), random_ones)), of_both_forms()):
         compare_history(oracle, steps, nodes.ALLOW_UNSIGNED, counts, differ)
+    random_ones = (traces.some_history(r) for _ in range(count))
+    for n, steps in enumerate(itertools.chain(traces.named(), random_ones)):
+        steps = traces.loosely(r, steps) if n % 2 else steps
+        compare_history(oracle, [traces.grouped(r, step) for step in steps], GROUPS | n % 2, counts, differ)
 
 
 def compare_keys(oracle, r, count, counts, differ):

@@ -7,8 +7,8 @@ BINARY is target/bin/states, after `rt check states`. The model is states.py, ov
 nodes.py. The histories (state_histories.py) are fixed ones, each a run of its own: every refusal
 with its values, every clause of 42 broken alone, states that look odd and are well formed, stores
 of other lengths, buffers that just fit and just do not, full capacities, arrival numbers at the
-wrap, unsigned messages where they are allowed and where not, bodies in either edition, second bodies of serve; the fixed histories of `trace`, many in
-one run, in 1.1 and in mixed editions, and short ones of both forms of a message; and --count random ones, in which numbers of
+wrap, unsigned messages where they are allowed and where not, bodies in either edition, second bodies of serve, groups where they are skipped and where not;
+the fixed histories of `trace`, many in one run, in 1.1 and in mixed editions, and short ones of both forms of a message; and --count random ones, in which numbers of
 the state are set. Then come runs that end in `bad` or `long`, whose texts are written here. Every
 line is compared; the place behind a refusal 1 to 7 is that of places.py. Prints the counts, and the first differences with the fewest steps found that
 lead to them; the exit status is 0 where there are none.
@@ -25,7 +25,7 @@ import states
 from compare_wire import arguments
 from differences import Model, first_difference, line_at, printed_by, sort_of
 from records import header
-from state_histories import STATE, cut_why, edition_table, flag_table, loose_rows
+from state_histories import STATE, cut_why, edition_table, flag_table, group_table, loose_rows
 from states import MAX_CONTENT, record, records
 from traces import beat, senders
 
@@ -104,14 +104,17 @@ def endings():
     for word, answer in ((1, str), (0, peers.without_word)):
         yield "senders, word %d" % word, records(senders(rows, word)), ok + "".join("%d admit %s\n" % (n, answer(told)) for n, (_, told) in enumerate(rows, 2))
     rows = peers.UNSIGNED_ROWS
-    for flags, word in itertools.product((0, 1), (1, 0)):
+    for flags, word in itertools.product((0, 1, 2, 3), (1, 0)):
         yield "unsigned messages, flags %d, word %d" % (flags, word), records(loose_rows(rows, flags, word)), \
-            ok + "".join("%d admit %s\n" % (n, row[1 + flags]) for n, row in enumerate(rows, 2))
+            ok + "".join("%d admit %s\n" % (n, row[1 + flags % 2]) for n, row in enumerate(rows, 2))
     table = list(flag_table())
     yield "the scope's unsigned messages", records([step for step, _ in table]), \
         "".join("%d %s %s\n" % (n, states.CALLED.get(step[0], step[0]), told) for n, (step, told) in enumerate(table, 1))
     table = list(edition_table())
     yield "the scope's editions", records([step for step, _ in table]), \
+        "".join("%d %s %s\n" % (n, states.CALLED.get(step[0], step[0]), told) for n, (step, told) in enumerate(table, 1))
+    table = list(group_table())
+    yield "the scope's groups", records([step for step, _ in table]), \
         "".join("%d %s %s\n" % (n, states.CALLED.get(step[0], step[0]), told) for n, (step, told) in enumerate(table, 1))
     for edition in (2, 3, 128, 255):
         for step in (("admit_in", edition, 5, 0, 1, b""), ("ask_in", edition, 0, b""), ("serve_in", edition, 0, b"", b"")):
@@ -122,7 +125,7 @@ def endings():
             yield "a second body of %d bytes in %d" % (size, rest), begun + header(len(content), 26) + content + begun, ok + "bad\n"
     yield "the longest second body", begun + records([("serve_in", 1, 0, bytes(most - 9), b""), ("serve_in", 0, 0, b"", bytes(most - 9)), ("serve_in", 0, 0, b"", b"")]), \
         ok + "2 serve refused 10 65591\n3 serve refused 10 65591\n4 serve 0 0 0\n"
-    for flags in (4, 7, 255, 256, 257, 65535):
+    for flags in (4, 5, 7, 255, 256, 257, 65535):
         yield "flags %d" % flags, records([("flagged", 10, 4, 2, 4, flags), beat(5)]), "1 set refused 40\n2 beat ok\n"
     for call, (kind, _, rest) in states.FORM.items():
         least = states.RECORDS.least(call)

@@ -159,24 +159,28 @@ class Reader:
 
     def message(self, kind, start, end, path=()):
         """The message of this kind that stands between two places."""
-        known, fields, at = {field.number: field for field in self.messages[kind]}, [], start
+        fields, at = [], start
         while at < end:
             number, wire, tag_end, inside, after = self.field(at, start, end, path)
-            field = known.get(number)
-            if field and field.type == wire:
-                if field.what in self.messages:
-                    value = self.message(field.what, inside, after, path + (number,))
-                elif wire == 0:
-                    value = self.varint(inside, end, path)[0]
-                else:
-                    value = self.body[inside:after]
-                    if field.what == "string" and not is_utf8(value):
-                        raise Refused(7, (tag_end - start,), tag_end, path)
-                fields.append((field.name, value))
-            else:
-                self.skipped.add((kind, number, wire))
+            fields += self.taken(kind, number, wire, (tag_end, inside, after), start, end, path)
             at = after
         return Message(kind, self.body[start:end], fields)
+
+    def taken(self, kind, number, wire, places, start, end, path):
+        """A field of a message, as (name, value), if it is known; else it is skipped."""
+        tag_end, inside, after = places
+        field = next((field for field in self.messages[kind] if (field.number, field.type) == (number, wire)), None)
+        if field is None:
+            self.skipped.add((kind, number, wire))
+            return []
+        if field.what in self.messages:
+            return [(field.name, self.message(field.what, inside, after, path + (number,)))]
+        if wire == 0:
+            return [(field.name, self.varint(inside, end, path)[0])]
+        value = self.body[inside:after]
+        if field.what == "string" and not is_utf8(value):
+            raise Refused(7, (tag_end - start,), tag_end, path)
+        return [(field.name, value)]
 
 
 def is_utf8(data):
@@ -196,11 +200,11 @@ def is_utf8(data):
     return True
 
 
-def read(body, edition):
+def read(body, edition, reader=Reader):
     """The RPC that a body is, within the limits; or Refused."""
     if len(body) > MAX_BODY:
         raise Refused(10, (len(body),))
-    rpc = Reader(body, edition).message("RPC", 0, len(body))
+    rpc = reader(body, edition).message("RPC", 0, len(body))
     count = len(records(rpc))
     if count > MAX_RECORDS:
         raise Refused(11, (count,))

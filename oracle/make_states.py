@@ -8,9 +8,9 @@ The input meets every refusal that the program can show (10 once, by ask), break
 that just fit and just do not, full capacities, arrival numbers at the wrap, rows that left and come
 back, maxima of 0, messages with topics of every sort, each answer of `why`, refusals in each
 message of a body, with their places, senders and keys of every sort, unsigned messages with
-the flags that allow them and without, and bodies in either edition, with second bodies of serve (state_histories.py).
-Last come groups, in both modes. A reply about 65,536 bytes would be too long for it: compare_states.py has those. The answers in
-stdout are the model's (states.py), and about groups written by hand (group_rows.py), never the program's; `rt check` holds the program to them. With
+the flags that allow them and without, bodies in either edition, with second bodies of serve, and groups, where they are skipped and where not (state_histories.py).
+A reply about 65,536 bytes would be too long for it: compare_states.py has those. The answers in
+stdout are the model's (states.py), never the program's; `rt check` holds the program to them. With
 BINARY, target/bin/states, they are compared at once.
 """
 
@@ -18,7 +18,6 @@ import collections
 import os
 import sys
 
-import group_rows
 import programs
 import state_histories
 import states
@@ -29,8 +28,8 @@ from oracle import HERE
 from state_histories import STATE, admit, tells, turned
 
 # Of both files together, so that the gate stays quick. It was 310,000 before senders were peer ids: the records that stood there stay, and ids grew;
-# 400,000 before there were unsigned messages, 430,000 before there were editions, and 470,000 before there were groups.
-MOST_BYTES = 500000
+# 400,000 before there were unsigned messages, 430,000 before there were editions, and 470,000 before groups could be skipped.
+MOST_BYTES = 515000
 
 
 def histories():
@@ -63,6 +62,8 @@ def histories():
     yield state_histories.flags_in_few_bytes()
     # In which edition a body is read, and what is left out of a reply.
     yield state_histories.editions_in_few_bytes()
+    # Which groups are skipped.
+    yield state_histories.groups_in_few_bytes()
 
 
 def main():
@@ -76,10 +77,6 @@ def main():
     assert missing <= {("admit", 10), ("serve", 10)}, missing
     assert all(broken.alone[clause] for clause in states.CLAUSES), broken.alone
     assert counts["serve some left"] and len(lines) == len(steps)
-    rows = list(group_rows.state_rows())
-    data += states.records([step for step, _ in rows])
-    lines += ["%d %s %s" % (n, states.CALLED.get(step[0], step[0]), answer) for n, (step, answer) in enumerate(rows, len(lines) + 1)]
-    text = "".join(line + "\n" for line in lines)
     assert len(data) + len(text) <= MOST_BYTES, (len(data), len(text))
     if binary:
         assert printed_by(binary, data) == lines + [""]
@@ -88,7 +85,7 @@ def main():
         out.write(data)
     with open(os.path.join(folder, "stdout"), "w") as out:
         out.write(text)
-    print("states: %d records, %d bytes in, %d bytes out" % (len(lines), len(data), len(text)))
+    print("states: %d records, %d bytes in, %d bytes out" % (len(steps), len(data), len(text)))
 
 
 if __name__ == "__main__":

@@ -12,10 +12,11 @@ Both have rows about the place of a refusal at their end; after them `caches` ha
 unsigned messages, with the flags that allow them and without, and `inspect` has public
 keys and peer ids (keys.py), and lists to write from (lists.py): the rows of the scope,
 some of the fixed ones and random ones. Then come bodies in both editions, by the kinds
-that have a dialect, and puts in both; last bodies with groups, in both modes. The answers in stdout are the Rust's,
+that have a dialect, and puts in both; last bodies with groups, in every dialect, and puts of
+messages with groups where these are skipped and where not. The answers in stdout are the Rust's,
 from the oracle, never the program's; the limits that the Rust does not have are the
-scope's own, the places are those of places.py, what is said in 1.2 is editions.py's, and the lines about groups are written by hand (group_rows.py).
-Each run ends with a length that is too long, its kind cut off.
+scope's own, the places are those of places.py, and what is said in 1.2 and where groups are skipped is that of editions.py and groups.py. Each run
+ends with a length that is too long, its kind cut off.
 """
 
 import os
@@ -24,12 +25,12 @@ import random
 import bodies
 import caches
 import editions
-import group_rows
+import groups
 import keys
 import lists
 import wire
 from oracle import HERE, Oracle
-from places import EDITION_ROWS, EDITIONS, V1_1, V1_2
+from places import DIALECTS, EDITION_ROWS, EDITIONS, GROUPS, OF_GROUPS, V1_1, V1_2
 from programs import build
 
 SEED = 20
@@ -51,6 +52,10 @@ EDITIONS_SEED = 27
 SOME_DECLINED = 60
 RANDOM_DECLINED = 130
 SHORT_DECLINED = 200
+GROUPS_SEED = 28
+SOME_GROUPS = 60
+RANDOM_GROUPS = 90
+SHORT_GROUPS = 120
 CACHES_SEED = 23
 CACHES_RECORDS = 1950
 
@@ -185,6 +190,40 @@ def edition_lines(oracle, cases):
     return told
 
 
+def chosen_groups(r):
+    """The rows of the scope, some of the fixed ones and random ones that are short; among these messages, too."""
+    yield from bodies.group_rows()
+
+    def short(some):
+        return [body for body in some if len(body) <= SHORT_GROUPS]
+    for some in (bodies.group_bodies(), bodies.deep_bodies(), bodies.placed_groups()):
+        yield from r.sample(short(some), SOME_GROUPS)
+    yield from short(r.choice((bodies.grouped_body, bodies.grouped_messages))(r) for _ in range(RANDOM_GROUPS))
+
+
+def group_cases(r):
+    """(case, dialect): of each body decode in every dialect, and encode where groups are skipped; of those with a message its sign bytes and its id; a step of a walk from
+    its start and from another place. Last the most records, which groups are none of, and the longest group."""
+    for body in chosen_groups(r):
+        yield from ((("decode", body, 0), dialect) for dialect in DIALECTS)
+        calls = ["encode"] + (["sign", "id"] if any((field, wire) == (2, 2) for field, wire, *_ in caches.cut(body, GROUPS)) else [])
+        yield from (((call, body, 0), edition | GROUPS) for call in calls for edition in (V1_1, V1_2)[:2 if call == "encode" else 1])
+        yield from ((("walk", body, place), dialect) for place in (0, r.randrange(len(body) + 1)) for dialect in r.sample(DIALECTS, 2))
+    for body in (*(b"\x0a\x00" * n + bodies.group(1, b"\x0a\x00" * 3) for n in (512, 513)), bodies.group(1, b"\x08\x00" * 32767)):
+        yield ("encode", body, 0), V1_2 | GROUPS
+
+
+def group_lines(oracle, cases):
+    """Their lines: the Rust's in 1.1 where groups are refused, else the models'; 14 to 16 are met where groups are skipped, and not where they are refused."""
+    told = []
+    for case, dialect in cases:
+        asked = wire.command(case)
+        told.append("\n".join(lines(case, asked, oracle.ask(asked)) if dialect == V1_1 else groups.lines(case, dialect)))
+    met = {(case[0], dialect // GROUPS, int(line.split(" ")[2])) for (case, dialect), line in zip(cases, told) if " refused " in line.split("\n")[0]}
+    assert all((call, 1, number) in met and (call, 0, number) not in met for call in ("decode", "encode", "walk") for number in OF_GROUPS), met
+    return told
+
+
 def list_lines(oracle, cases):
     """The lines of cases of lists, without their numbers."""
     told = [lists.answer(case, oracle.ask) for case in cases]
@@ -232,11 +271,10 @@ def make_inspect(oracle):
     answers = oracle.batch(commands)
     of_lists = list(chosen_lists(random.Random(LISTS_SEED)))
     of_editions = list(edition_cases(random.Random(EDITIONS_SEED)))
-    of_groups = list(group_rows.inspected())
-    save("inspect", [wire.record(case) for case in cases] + [lists.record(case) for case in of_lists] + [wire.record(*case) for case in of_editions]
-         + [wire.record(case, dialect) for case, dialect, _ in of_groups],
+    of_groups = list(group_cases(random.Random(GROUPS_SEED)))
+    save("inspect", [wire.record(case) for case in cases] + [lists.record(case) for case in of_lists] + [wire.record(*case) for case in of_editions + of_groups],
          ["\n".join(lines(*one)) for one in zip(cases, commands, answers)] + list_lines(oracle, of_lists) + edition_lines(oracle, of_editions)
-         + [told for *_, told in of_groups])
+         + group_lines(oracle, of_groups))
 
 
 def make_caches(oracle):
@@ -247,13 +285,11 @@ def make_caches(oracle):
     steps += [step for one in caches.placed_named() for step in one]
     steps += [step for one in caches.flag_named() for step in one]
     steps += [step for one in caches.edition_named(few=True) for step in one]
+    steps += [step for one in caches.group_named(few=True) for step in one]
     told = [line.split(" ", 1)[1] for line in caches.expected(oracle, caches.records(steps))]
     assert len(told) == len(steps) and {step[0] for step in steps} == set(caches.FORM)
     refused = {tuple(line.split(" ")[0:3:2]) for line in told if line.split(" ")[1] == "refused"}
     assert refused == {(call, str(number)) for call, numbers in caches.REFUSALS.items() for number in numbers}
-    for step, answer in group_rows.cache_rows():
-        steps.append(step)
-        told.append("%s %s" % (caches.CALLED.get(step[0], step[0]), answer))
     save("caches", [caches.record(step) for step in steps], told)
 
 

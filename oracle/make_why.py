@@ -13,9 +13,9 @@ import sys
 
 import nodes
 import programs
+from bodies import group, tagged
 from caches import NAME, U, X, plain, x_with
 from compare_states import printed_by
-from group_rows import BEFORE, BEHIND, NAMES, of, reply
 from oracle import HERE
 from peers import ID
 from records import Records
@@ -148,21 +148,25 @@ UNSIGNED = [
     (admit(100, body_of(U)), "refused 25"),
 ]
 
-# A gateway that passes over groups, and holds a message with one: in the first mode it is none.
-GROUPS = [
-    (("gateway", holding(2, BEHIND)), "refused 42"),
-    (("gateway", holding(2, BEHIND, flags=2)), "ok"),
+# A gateway that skips groups, and holds a message that has some, with a topic in one of them. Under other flags it is none; settings of a trace skip none.
+GROUPED = group(4, tagged(4, b"u")) + plain(X) + group(1)
+G = tagged(2, GROUPED)
+SKIPPING = [
+    (("gateway", holding(2, GROUPED)), "refused 42"),
+    (("gateway", holding(2, GROUPED, flags=1)), "refused 42"),
+    (("gateway", holding(2, GROUPED, flags=6)), "refused 42"),
+    (("gateway", holding(2, GROUPED, flags=2)), "ok"),
     (why(3), "listed"),
-    (serve(NAME), reply(BEHIND)),
-    (admit(501, of(BEFORE)), "new"),
-    (why(1, NAMES[2]), "listed"),
-    (why(1, NAMES[2], b"u"), "topic"),
-    (admit(501, b"\x0b"), "refused 16"),
-    (admit(501, b"\x0c"), "refused 14"),
-    (("gateway", holding(2, BEFORE, NAMES[2], flags=3)), "ok"),
-    (why(3, NAMES[2]), "listed"),
+    (why(3, topic=b"u"), "topic"),
+    (serve(NAME), "121 %s 1 0" % G.hex()),
+    (admit(501, G), "dup"),
+    (admit(501, G[:-1] + b"\x14"), "refused 14"),
+    (admit(501, G + b"\x0b"), "refused 16"),
+    (("ask", b"\x0b" * 33), "refused 15"),
+    (("gateway", holding(2, flags=3)), "ok"),
+    (why(3), "listed"),
     (("set", 1000, 4, 2, 4), "ok"),
-    (admit(100, of(BEHIND)), "refused 5"),
+    (admit(100, G), "refused 5"),
 ]
 
 # The id is longer than what follows.
@@ -170,7 +174,7 @@ CUT = ("why", 1, 3, NAME[-2:])
 
 
 def main():
-    rows = STARTED + GIVEN + SAVED_BEFORE + UNSIGNED + GROUPS
+    rows = STARTED + GIVEN + SAVED_BEFORE + UNSIGNED + SKIPPING
     data = RECORDS.records([step for step, _ in rows] + [CUT])
     lines = ["%d %s %s" % (n, step[0], answer) for n, (step, answer) in enumerate(rows, 1)] + ["bad"]
     if len(sys.argv) > 1:

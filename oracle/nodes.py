@@ -8,12 +8,14 @@ A step is a call, its numbers and then its bytes: ("set", ttl, max_seen, history
 max_messages), ("admit", now, index, verified, body), ("beat", now), ("advertise",
 windows, topic), ("ask", body), ("serve", body). `expected` takes an input as bytes
 and gives the lines of the run. A node has flags, too, which the trace program does not
-know: there they are 0. Nor does it know editions: there all bodies are read in 1.1.
+know: there they are 0, and groups are refused. Nor does it know editions: there all bodies
+are read in 1.1. What a reader is told is a dialect, an edition and whether groups are
+skipped (places.py); a node makes it of the edition of a call and of its flags.
 """
 
 from bodies import PARTS_IN, RPC, tagged
 from peers import NOT_PEER_ID, mismatch, peer_of
-from places import V1_1, V1_2
+from places import GROUPS, V1_1, V1_2, edition_of, skips_groups
 from records import Records
 
 TOP = 2**64 - 1
@@ -30,9 +32,9 @@ SIGNATURE = 64
 MAX_TOPICS = 4
 MAX_TOPIC = 1024
 MAX_MESSAGE = 4096
-ALLOW_UNSIGNED = 1  # a flag: messages with neither signature nor key may be taken
-SKIP_GROUPS = 2  # a flag: groups are passed over, which this model does not
-MAX_FLAGS = 3
+ALLOW_UNSIGNED = 1  # a flag: messages with neither signature nor key may be taken; the other one is GROUPS
+MAX_FLAGS = ALLOW_UNSIGNED | GROUPS
+MAX_DEPTH = 32  # of groups
 ROOM = 65536
 
 # Of each call: its kind, how many bytes its numbers have, and whether bytes follow them.
@@ -48,7 +50,7 @@ REFUSALS = {"set": {40}, "admit": BODY | ADMISSION, "beat": {31}, "advertise": {
 
 
 class Refused(Exception):
-    """A refusal: its number, and the values beside it; of a body that is refused also that body and its edition, else None."""
+    """A refusal: its number, and the values beside it; of a body that is refused also that body and its dialect, else None."""
 
     def __init__(self, number, *values):
         super().__init__(number, *values)
@@ -74,24 +76,53 @@ def number_at(data, at):
     return value, at + n + 1
 
 
-def fields(data):
-    """(field, wire type, place after the tag, content), one after the other. The content of type 0 is its number."""
+def tag_at(data, at):
+    """A field's number, its wire type and the place after its tag."""
+    tag, place = number_at(data, at)
+    field, wire = tag // 8, tag % 8
+    if not 1 <= field <= MAX_FIELD:
+        raise Refused(6, field, at)
+    return field, wire, place
+
+
+def content_at(data, field, wire, place, levels):
+    """The content of a field whose tag ends at a place, and where it ends. So many groups more may open; None where groups are refused. The content of type 0 is
+    its number, that of a group its fields and its end tag."""
+    if wire == 0:
+        return number_at(data, place)
+    if wire in (1, 2, 5):
+        size, start = number_at(data, place) if wire == 2 else (8 if wire == 1 else 4, place)
+        if size > len(data) - start:
+            raise Refused(4, start, size, len(data) - start)
+        return data[start:start + size], start + size
+    if levels is None or wire in (6, 7):
+        raise Refused(5, wire, place)
+    if wire == 4:
+        raise Refused(14)
+    if levels == 0:
+        raise Refused(15)
+    end = past_group(data, field, place, levels - 1)
+    return data[place:end], end
+
+
+def past_group(data, field, at, levels):
+    """The place after the end tag of a group whose fields begin at a place."""
+    while at < len(data):
+        inner, wire, place = tag_at(data, at)
+        if wire == 4:
+            if inner != field:
+                raise Refused(14)
+            return place
+        _, at = content_at(data, inner, wire, place, levels)
+    raise Refused(16)
+
+
+def fields(data, dialect=V1_1):
+    """(field, wire type, place after the tag, content), one after the other."""
     at = 0
     while at < len(data):
-        tag, place = number_at(data, at)
-        field, wire = tag // 8, tag % 8
-        if not 1 <= field <= MAX_FIELD:
-            raise Refused(6, field, at)
-        if wire not in (0, 1, 2, 5):
-            raise Refused(5, wire, place)
-        if wire == 0:
-            content, at = number_at(data, place)
-        else:
-            size, start = number_at(data, place) if wire == 2 else (8 if wire == 1 else 4, place)
-            if size > len(data) - start:
-                raise Refused(4, start, size, len(data) - start)
-            at = start + size
-            content = data[start:at]
+        field, wire, place = tag_at(data, at)
+        content, at = content_at(data, field, wire, place, MAX_DEPTH if skips_groups(dialect) else None)
         yield field, wire, place, content
 
 
@@ -107,19 +138,19 @@ def is_utf8(data):
 LISTED = {"message": 4, "ihave": 2, "iwant": 1, "idontwant": 1}
 
 
-def read(data, name, edition=V1_1):
+def read(data, name, dialect=V1_1):
     """The known fields of a submessage, as (field, content), and how many records stand inside it.
     The content of a submessage is (its bytes, its own known fields)."""
-    parts, got, records = PARTS_IN[edition], [], 0
+    parts, got, records = PARTS_IN[edition_of(dialect)], [], 0
     known = parts.get(name, RPC)
-    for field, wire, place, content in fields(data):
+    for field, wire, place, content in fields(data, dialect):
         what = known.get(field)
         if what is None or wire != (0 if what == "number" else 2):
             continue
         if what == "text" and not is_utf8(content):
             raise Refused(7, place)
         if what in parts:
-            inner, inside = read(content, what, edition)
+            inner, inside = read(content, what, dialect)
             content = content, inner
             records += inside + (what != "control")
         records += field == LISTED.get(name)
@@ -130,17 +161,17 @@ def read(data, name, edition=V1_1):
 class Body:
     """What the calls need of a body: its messages, as (bytes, known fields), and the ids in its IHAVEs, in its IWANTs and, in 1.2, in its IDONTWANTs."""
 
-    def __init__(self, data, edition=V1_1):
+    def __init__(self, data, dialect=V1_1):
         try:
-            self.read(data, edition)
+            self.read(data, dialect)
         except Refused as why:
-            why.body = data, edition
+            why.body = data, dialect
             raise
 
-    def read(self, data, edition):
+    def read(self, data, dialect):
         if len(data) > MAX_BODY:
             raise Refused(10, len(data))
-        rpc, self.records = read(data, "rpc", edition)
+        rpc, self.records = read(data, "rpc", dialect)
         if self.records > MAX_RECORDS:
             raise Refused(11, self.records)
         self.messages = [content for field, content in rpc if field == 2]
@@ -256,8 +287,12 @@ class Node:
         return sorted({name for name, _, topics, age in self.cache if age < windows and topic in topics})
 
     def form(self, body, index, name):
-        """What a message with this id is seen as."""
-        return marked(is_signed(Body(body).messages[index]), name)
+        """What a message with this id is seen as. It is the same in every edition."""
+        return marked(is_signed(Body(body, self.spoken(V1_1)).messages[index]), name)
+
+    def spoken(self, edition):
+        """The dialect in which it reads a body of this edition."""
+        return edition | self.flags & GROUPS
 
     def knows(self, name):
         """Whether an id is not asked for: its message was seen with a signature or, where such are allowed, without."""
@@ -266,7 +301,7 @@ class Node:
     # The calls.
 
     def admit(self, now, index, verified, body, edition=V1_1):
-        messages = Body(body, edition).messages
+        messages = Body(body, self.spoken(edition)).messages
         if index >= len(messages):
             raise Refused(20, len(messages))
         name, topics = admission(messages[index], verified, self.flags)
@@ -309,12 +344,12 @@ class Node:
         return "listed" if age < windows else "window %d" % age
 
     def ask(self, body, edition=V1_1):
-        names = [name for name in once(Body(body, edition).have) if not self.knows(name)]
+        names = [name for name in once(Body(body, self.spoken(edition)).have) if not self.knows(name)]
         return fitted(tagged(3, tagged(2, b"".join(tagged(1, name) for name in names)))) if names else b""
 
     def serve(self, body, room=ROOM, edition=V1_1, unwanted=b""):
         """(the reply, how many messages were written, how many were left). What the IDONTWANTs of a second body name, which is read in 1.2, is passed over."""
-        wanted, declined = once(Body(body, edition).want), Body(unwanted, V1_2).dont
+        wanted, declined = once(Body(body, self.spoken(edition)).want), Body(unwanted, self.spoken(V1_2)).dont
         found = [raw for raw in (self.cached(name) for name in wanted if name not in declined) if raw is not None]
         reply, written = b"", 0
         for raw in found:

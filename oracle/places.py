@@ -1,19 +1,34 @@
 """Where in a body a refusal stands: a finder of places that shares nothing with the readers it is held against.
 
-It is written from the encoding of Protocol Buffers and the scope's rules for reading a body, in either edition of gossipsub. It goes over the bytes once, from the
-first to the last, and cuts nothing: each place is one in the whole body, and the messages that are open at a place are a list, each with its end.
-`find` gives the first refusal 1 to 7 of a body, `find_field` that of a walk's one step, as a Place or None. The numbers and the values beside
-them are the Rust's to say; the comparisons put a place behind the Rust's words by `with_place`, which also holds the two to each other: they
+It is written from the encoding of Protocol Buffers and the scope's rules for reading a body, in every dialect: either edition of gossipsub, and groups refused or
+skipped. It goes over the bytes once, from the first to the last, and cuts nothing: each place is one in the whole body, and the messages that are open at a place are
+a list, each with its end and with the numbers of the groups that are open in it.
+`find` gives the first refusal 1 to 7 or 14 to 16 of a body, `find_field` that of a walk's one step, as a Place or None; that of 14 to 16 has no offset. The numbers and the values beside
+them are the Rust's to say, or a model's; the comparisons put a place behind these words by `with_place`, which also holds the two to each other: they
 must have the same number, and the Rust's own offset must be the place, counted from the start of the message that it stands in.
 """
 
 import collections
 
-# The refusal's number, its place, the numbers of the fields around that, the outermost first, and where the innermost of these messages starts.
+# The refusal's number, its place (None for 14 to 16), the numbers of the fields around that, the outermost first, and where the innermost of these messages starts.
 Place = collections.namedtuple("Place", "number offset fields start")
 
 # The editions of gossipsub, by the numbers that records and calls have for them.
 V1_1, V1_2 = EDITIONS = 0, 1
+
+# What is added to an edition where groups are skipped, and all dialects. The flags of a node have the same bit for it.
+GROUPS = 2
+DIALECTS = V1_1, V1_2, V1_1 | GROUPS, V1_2 | GROUPS
+
+
+def edition_of(dialect):
+    return dialect % 2
+
+
+def skips_groups(number):
+    """Whether a dialect, or the flags of a node, skip groups."""
+    return number // GROUPS % 2 == 1
+
 
 # Which fields of a message are messages, by the edition, and which one is text; with a length before them, both.
 MESSAGES = {
@@ -31,8 +46,10 @@ MESSAGES = {
 TEXT = {"SubOpts": 2, "Message": 4, "IHave": 1, "Graft": 1, "Prune": 1}
 
 SHORT, OVERFLOW, NOT_MINIMAL, PASSES_END, WIRE_TYPE, FIELD_NUMBER, NOT_UTF8 = range(1, 8)
+OTHER_END, TOO_DEEP, LEFT_OPEN = OF_GROUPS = 14, 15, 16
 OF_A_BODY = range(SHORT, NOT_UTF8 + 1)
-VARINT, EIGHT_BYTES, LENGTH, FOUR_BYTES = 0, 1, 2, 5
+VARINT, EIGHT_BYTES, LENGTH, START_GROUP, END_GROUP, FOUR_BYTES = range(6)
+MAX_OPEN = 32  # groups
 LAST_FIELD = 2**29 - 1
 
 # Which of the values beside a refusal is the Rust's own offset.
@@ -63,12 +80,21 @@ def varint_at(body, at, end):
     return sum((byte & 0x7F) * 128**n for n, byte in enumerate(some[:size])), at + size
 
 
-def field_at(body, at, end):
-    """The field that starts at a place of a message which ends at `end`: (number, wire type, end of its tag, start of what it holds, its end)."""
+def field_at(body, at, end, groups=None):
+    """The field that starts at a place of a message which ends at `end`: (number, wire type, end of its tag, start of what it holds, its end). `groups` are the
+    numbers of the groups that are open there, and are kept up; None where groups are refused. A tag that opens or closes one is a field that holds nothing."""
     tag, tag_end = varint_at(body, at, end)
     number, wire = divmod(tag, 8)
     if number < 1 or number > LAST_FIELD:
         raise Found(FIELD_NUMBER, at)
+    if groups is not None and wire in (START_GROUP, END_GROUP):
+        if wire == START_GROUP:
+            groups.append(number)
+            if len(groups) > MAX_OPEN:
+                raise Found(TOO_DEEP, None)
+        elif not groups or groups.pop() != number:
+            raise Found(OTHER_END, None)
+        return number, wire, tag_end, tag_end, tag_end
     if wire == VARINT:
         return number, wire, tag_end, tag_end, varint_at(body, tag_end, end)[1]
     if wire == LENGTH:
@@ -90,24 +116,30 @@ def is_text(data):
     return True
 
 
-def find(body, edition=V1_1):
+def find(body, dialect=V1_1):
     """The first refusal in reading order, with the fields around its place, the outermost first; None where there is none."""
-    at, path, around = 0, [], [("RPC", 0, len(body))]
+    def opened(name, start, end):
+        return name, start, end, [] if skips_groups(dialect) else None
+
+    at, path, around, messages = 0, [], [opened("RPC", 0, len(body))], MESSAGES[edition_of(dialect)]
     try:
         while around:
-            name, _, end = around[-1]
+            name, _, end, groups = around[-1]
             if at == end:
+                if groups:
+                    raise Found(LEFT_OPEN, None)
                 around.pop()
                 del path[-1:]
                 continue
-            number, wire, tag_end, start, after = field_at(body, at, end)
-            inner = MESSAGES[edition].get(name, {}).get(number) if wire == LENGTH else None
+            number, wire, tag_end, start, after = field_at(body, at, end, groups)
+            known = wire == LENGTH and not groups
+            inner = messages.get(name, {}).get(number) if known else None
             if inner:
-                around.append((inner, start, after))
+                around.append(opened(inner, start, after))
                 path.append(number)
                 at = start
                 continue
-            if wire == LENGTH and TEXT.get(name) == number and not is_text(body[start:after]):
+            if known and TEXT.get(name) == number and not is_text(body[start:after]):
                 raise Found(NOT_UTF8, tag_end)
             at = after
     except Found as found:
@@ -115,11 +147,16 @@ def find(body, edition=V1_1):
     return None
 
 
-def find_field(body, at):
-    """The refusal of the top-level field at a place, for a walk: no field encloses it."""
+def find_field(body, at, dialect=V1_1):
+    """The refusal of the top-level field at a place, for a walk: no field encloses it. A group is one field."""
+    groups = [] if skips_groups(dialect) else None
     try:
         if at < len(body):
-            field_at(body, at, len(body))
+            *_, at = field_at(body, at, len(body), groups)
+        while groups:
+            if at == len(body):
+                raise Found(LEFT_OPEN, None)
+            *_, at = field_at(body, at, len(body), groups)
     except Found as found:
         return Place(*found.args, (), 0)
     return None
@@ -128,12 +165,12 @@ def find_field(body, at):
 # --- the words of a line -----------------------------------------------------------
 
 def words(place):
-    """How a line ends that tells a place."""
-    return " at %d" % place.offset + "".join(" in" + "".join(" %d" % field for field in fields) for fields in [place.fields] if fields)
+    """How a line ends that tells a place; 14 to 16 tell none."""
+    return "" if place.offset is None else " at %d" % place.offset + "".join(" in" + "".join(" %d" % field for field in fields) for fields in [place.fields] if fields)
 
 
 def agrees(refused, place):
-    """Whether the words of a refusal 1 to 7, as the Rust or a model has them, and a place that was found are of one refusal."""
+    """Whether the words of a refusal 1 to 7 or 14 to 16, as the Rust or a model has them, and a place that was found are of one refusal."""
     number, *values = map(int, refused.split(" ")[1:])
     return place is not None and place.number == number and (
         number not in OWN_OFFSET or place.start + values[OWN_OFFSET[number]] == place.offset)
@@ -141,7 +178,7 @@ def agrees(refused, place):
 
 def with_place(refused, found, *given):
     """The words of a refusal, `refused N ..`, and its place, by `find` or `find_field`; other refusals, and None, stay as they are."""
-    if refused is None or int(refused.split(" ")[1]) not in OF_A_BODY:
+    if refused is None or int(refused.split(" ")[1]) not in (*OF_A_BODY, *OF_GROUPS):
         return refused
     place = found(*given)
     assert agrees(refused, place), "%s, and the finder has %s" % (refused, place)
@@ -231,4 +268,78 @@ EDITION_ROWS = [
     # The number 5 elsewhere: in a message it is the signature, and at the top it is not known.
     ("12032a0180", None, None),
     ("2a0180", None, None),
+]
+
+# Bodies with groups, and what is told of each where these are refused and where they are skipped; None where it is taken. In either edition.
+DEEP, ENDS = "0b" * 32, "0c" * 32
+GROUP_ROWS = [
+    ("0b0c", "refused 5 3 1 at 1", None),
+    ("1b1c", "refused 5 3 1 at 1", None),
+    ("83018401", "refused 5 3 2 at 2", None),
+    ("0b13140c", "refused 5 3 1 at 1", None),
+    ("0b", "refused 5 3 1 at 1", "refused 16"),
+    ("0b0801", "refused 5 3 1 at 1", "refused 16"),
+    ("1a010b0c", "refused 5 3 1 at 3 in 3", "refused 16"),
+    ("0c", "refused 5 4 1 at 1", "refused 14"),
+    ("0b14", "refused 5 3 1 at 1", "refused 14"),
+    ("0b130c", "refused 5 3 1 at 1", "refused 14"),
+    ("0b0c0c", "refused 5 3 1 at 1", "refused 14"),
+    ("12010c", "refused 5 4 1 at 3 in 2", "refused 14"),
+    (DEEP + ENDS, "refused 5 3 1 at 1", None),
+    ("1a40" + DEEP + ENDS, "refused 5 3 1 at 3 in 3", None),
+    (DEEP + "0b" + "0c" + ENDS, "refused 5 3 1 at 1", "refused 15"),
+    (DEEP + "0b", "refused 5 3 1 at 1", "refused 15"),
+    (DEEP + "03", "refused 5 3 1 at 1", "refused 6 0 32 at 32"),
+    (DEEP, "refused 5 3 1 at 1", "refused 16"),
+    ("0b04", "refused 5 3 1 at 1", "refused 6 0 1 at 1"),
+    ("0b0e", "refused 5 3 1 at 1", "refused 5 6 2 at 2"),
+    ("0b0a0508", "refused 5 3 1 at 1", "refused 4 3 5 1 at 3"),
+    ("0b08", "refused 5 3 1 at 1", "refused 1 at 2"),
+    ("0b80", "refused 5 3 1 at 1", "refused 1 at 1"),
+    ("0b8c00", "refused 5 3 1 at 1", "refused 3 at 1"),
+    ("12020b0c", "refused 5 3 1 at 3 in 2", None),
+    ("12080a01420b0a01410c", "refused 5 3 4 at 6 in 2", None),
+    ("1a020b0c", "refused 5 3 1 at 3 in 3", None),
+    ("0a050b1201ff0c", "refused 5 3 1 at 3 in 1", None),
+    ("0b1096010c1a00", "refused 5 3 1 at 1", None),
+    ("2a010b", None, None),
+]
+
+# More of them: other refusals in a group, what stands behind one, groups in each message, depth that begins anew, text and messages that are not entered.
+MORE_GROUP_ROWS = [
+    ("0b0f0c", "refused 5 3 1 at 1", "refused 5 7 2 at 2"),
+    ("0b" + "80" * 9 + "02", "refused 5 3 1 at 1", "refused 2 at 1"),
+    ("0b08" + "80" * 9 + "02" + "0c", "refused 5 3 1 at 1", "refused 2 at 2"),
+    ("0b0a80000c", "refused 5 3 1 at 1", "refused 3 at 2"),
+    ("0b090c", "refused 5 3 1 at 1", "refused 4 2 8 1 at 2"),
+    ("0b0c80", "refused 5 3 1 at 1", "refused 1 at 2"),
+    ("0b0c0a031201ff", "refused 5 3 1 at 1", "refused 7 1 at 5 in 1"),
+    ("0a050b0c1201ff", "refused 5 3 1 at 3 in 1", "refused 7 3 at 5 in 1"),
+    ("0a070b0c1203ff0c0c", "refused 5 3 1 at 3 in 1", "refused 7 3 at 5 in 1"),
+    ("0b12030a01800c", "refused 5 3 1 at 1", None),
+    ("0b0a030801800c", "refused 5 3 1 at 1", None),
+    ("0b1a022a000c", "refused 5 3 1 at 1", None),
+    ("f3ffffff0ff4ffffff0f", "refused 5 3 5 at 5", None),
+    ("8380808010", "refused 6 536870912 0 at 0", "refused 6 536870912 0 at 0"),
+    ("0b8480808010", "refused 5 3 1 at 1", "refused 6 536870912 1 at 1"),
+    ("0c80", "refused 5 4 1 at 1", "refused 14"),
+    ("0b0c0b", "refused 5 3 1 at 1", "refused 16"),
+    ("0b0c130c", "refused 5 3 1 at 1", "refused 14"),
+    ("0b0b0c", "refused 5 3 1 at 1", "refused 16"),
+    ("0b0b0c0c", "refused 5 3 1 at 1", None),
+    ("0b130c14", "refused 5 3 1 at 1", "refused 14"),
+    ("8b000c", "refused 3 at 0", "refused 3 at 0"),
+    ("1a042202" + "0b0c", "refused 5 3 1 at 5 in 3 4", None),
+    ("1a0622041202" + "0b0c", "refused 5 3 1 at 7 in 3 4 2", None),
+    ("1a0522031201" + "0b0c", "refused 5 3 1 at 7 in 3 4 2", "refused 16"),
+    ("1a0522031201" + "0c", "refused 5 4 1 at 7 in 3 4 2", "refused 14"),
+    ("1a0422020b04", "refused 5 3 1 at 5 in 3 4", "refused 6 0 1 at 5 in 3 4"),
+    ("1a0322010b80", "refused 5 3 1 at 5 in 3 4", "refused 16"),
+    ("0b1a400c", "refused 5 3 1 at 1", "refused 4 3 64 1 at 3"),
+    ("0b" * 31 + "1a02" + "0b0c" + "0c" * 31, "refused 5 3 1 at 1", None),
+    ("0b1a40" + DEEP + ENDS + "0c", "refused 5 3 1 at 1", None),
+    ("0b0c1a40" + DEEP + ENDS, "refused 5 3 1 at 1", None),
+    ("1a42" + DEEP + "0b0c" + ENDS, "refused 5 3 1 at 3 in 3", "refused 15"),
+    ("0b" * 31 + "0c" * 31 + DEEP + ENDS, "refused 5 3 1 at 1", None),
+    ("0b0c" * 40, "refused 5 3 1 at 1", None),
 ]

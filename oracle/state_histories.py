@@ -14,11 +14,11 @@ import nodes
 import peers
 import states
 import traces
-from bodies import counted, declining_body, tagged
-from caches import NAME, OTHER_TYPES, REFUSED, TOPIC_MESSAGES, U, X, grown, padded, plain, topic_message, x_with
-from nodes import ALLOW_UNSIGNED, MAX_BODY, MAX_MESSAGE, MAX_TOPICS, ROOM, TOP
+from bodies import chain, counted, declining_body, group, grouped_body, tagged
+from caches import GROUPED, NAME, OTHER_TYPES, REFUSED, SPOILT, TOPIC_MESSAGES, U, X, grown, padded, plain, topic_message, with_groups, x_with
+from nodes import ALLOW_UNSIGNED, MAX_BODY, MAX_FLAGS, MAX_MESSAGE, MAX_TOPICS, ROOM, TOP
 from peers import A, B, F, HASHED, KEY, KEYLESS, LONGEST, RSA_KEY, identity, key_bytes
-from places import EDITION_ROWS, EDITIONS, MORE_ROWS, ROWS, V1_1, V1_2
+from places import EDITION_ROWS, EDITIONS, GROUP_ROWS, GROUPS, MORE_GROUP_ROWS, MORE_ROWS, ROWS, V1_1, V1_2, skips_groups
 from records import header
 from states import ARRIVAL, CACHE_BYTE, CACHE_BYTES, CLOCK, COUNT, EXPIRY, FLAGS, HISTORY_LEN, ID_LEN, IDS, LEN, MAX_HELD, MAX_ID, MAX_IDS, MAX_MADE, \
     NEXT, ROW, SEEN_BYTE, SEEN_BYTES, SEEN_COUNT, SEEN_LEN, SEEN_START, SLOTS, START, TOPIC_COUNT, TOPIC_LEN, TOPIC_START, TTL, WINDOW, Run, \
@@ -132,7 +132,7 @@ def other_message(run, place, raw):
     old = run.cache.message_at(run.cache_store, place)
     steps = [hurt(CACHE_BYTE, byte, place * MAX_MESSAGE + n) for n, byte in enumerate(raw) if n >= len(old) or old[n] != byte]
     steps += [] if run.cache.len[place] == len(raw) else [hurt(LEN, len(raw), place)]
-    return steps + (other_topics(run, place, topic_places(raw)) if taken(raw, run.cache.flags) else [])
+    return steps + (other_topics(run, place, topic_places(raw, run.cache.flags)) if taken(raw, run.cache.flags) else [])
 
 
 def other_topics(run, place, kept):
@@ -198,6 +198,20 @@ def mixed():
 def loose():
     """A node that allows unsigned messages and holds signed ones only."""
     return Play(("flagged", 100, 4, 4, 3, ALLOW_UNSIGNED), admit(10, named_message(3)), admit(10, named_message(4)))
+
+
+def with_group(n, *topics, inner=b"", first=False):
+    """A message with a group behind its fields, or before them."""
+    raw, more = plain(x_with(seqno=[bytes([n])], topic=topics or [b"t"])), group(7, inner)
+    return tagged(2, more + raw if first else raw + more)
+
+
+def skipping():
+    """As `turned`, where groups are skipped: of the cached messages 2 has a group behind its fields and 3 none; 4 has one before them, in which there are topics,
+    another sender and groups."""
+    inner = tagged(4, b"u") + tagged(1, b"Z") + group(4, tagged(4, b"\xff")) + counted(5, 9)
+    return Play(("flagged", 100, 4, 4, 3, GROUPS), admit(10, named_message(0)), admit(11, with_group(1)), admit(12, with_group(2, b"t", b"")), beat(13),
+                admit(14, named_message(3)), beat(15), admit(16, with_group(4, inner=inner, first=True)))
 
 
 KEYED = bytes([6 * 8 + 2, len(KEY)])  # what stands before a key
@@ -364,7 +378,7 @@ def key_breaks(play):
                 yield "message not admissible", [hurt(CACHE_BYTE, value, place * MAX_MESSAGE + 2 + where)]
 
 
-UNKNOWN_FLAGS = (7, 5, 255, 257, 65535, 2**32 + 1, 2**63 + 1, TOP)  # each has the first flag, too
+UNKNOWN_FLAGS = (5, 7, 255, 257, 65535, 2**32 + 1, 2**63 + 1, TOP)  # each has the first flag, too
 
 
 def flag_breaks(play):
@@ -391,12 +405,40 @@ def flag_breaks(play):
 
 def unknown_flags(play):
     """(clause, steps) for a state without unsigned messages."""
-    for value in (6, 4, 256, 65534, 2**32, 2**63, TOP - 1, *UNKNOWN_FLAGS):
+    for value in (4, 6, 256, 65534, 2**32, 2**63, TOP - 1, *UNKNOWN_FLAGS):
         yield "flags", [hurt(FLAGS, value)]
 
 
+def group_breaks(play):
+    """(clause, steps) for a state made by `skipping`: the flag is gone, a group does not end, ends otherwise, or is too deep; topics of a group among those of the message."""
+    run = play.run
+    for value in (6, 7, 10, 255, 258, 65535, 2**32 + 2, 2**63 + 2, TOP):
+        yield "flags", [hurt(FLAGS, value)]
+    for value in (0, ALLOW_UNSIGNED):
+        yield "message not admissible", [hurt(FLAGS, value)]
+    for (place, raw), n in zip(held_bytes(play), (2, 3, 4)):
+        base = plain(x_with(seqno=[bytes([n])]))
+        for other, _ in SPOILT:
+            yield "message not admissible", other_message(run, place, other.replace(plain(X), base))
+        yield "message of another id", other_message(run, place, GROUPED[1 if n > 2 else 0])
+        if n == 2:
+            # Its end tag is the last byte, and its start tag the one before it.
+            at = place * MAX_MESSAGE + len(raw)
+            for where, value in ((at - 1, 0x44), (at - 1, 0x3B), (at - 1, 0x00), (at - 2, 0x3C), (at - 2, 0x33), (at - 2, 0x3E)):
+                yield "message not admissible", [hurt(CACHE_BYTE, value, where)]
+            yield "message not admissible", [hurt(LEN, len(raw) - 1, place)]
+            yield "message not admissible", [hurt(CACHE_BYTE, 0x3C, at), hurt(LEN, len(raw) + 1, place)]
+            yield "topic count", [hurt(TOPIC_COUNT, 1, place)]
+        if n == 4:
+            start = raw.index(b"\x22\x01u") + 2
+            slot = place * MAX_TOPICS
+            yield "topic start", [hurt(TOPIC_START, start, slot)]
+            yield "topic count", [hurt(TOPIC_COUNT, 2, place), hurt(TOPIC_START, start, slot + 1), hurt(TOPIC_LEN, 1, slot + 1)]
+            yield "topic count", [hurt(TOPIC_COUNT, 0, place)]
+
+
 BROKEN_FINDERS = ((turned, breaks), (empty, lambda play: broken_empty()), (topical, topic_breaks), (keyed, key_breaks), (mixed, flag_breaks),
-                  (turned, unknown_flags), (loose, unknown_flags), (empty, unknown_flags))
+                  (turned, unknown_flags), (loose, unknown_flags), (empty, unknown_flags), (skipping, group_breaks))
 
 
 def harmed(play, clause, steps, *calls):
@@ -571,14 +613,27 @@ def odd_mixed(play):
 
 def odd_loose(play):
     """Flags that are others than those under which the messages came."""
-    yield [hurt(FLAGS, 0)]
-    yield [hurt(FLAGS, 1)]
+    for value in range(MAX_FLAGS + 1):
+        yield [hurt(FLAGS, value)]
     yield [hurt(FLAGS, 0), *[hurt(SEEN_BYTE, 0, place * ROW) for place in play.ids()]]
     yield [hurt(FLAGS, 1), *[hurt(SEEN_BYTE, 0, place * ROW) for place in play.ids()]]
 
 
+def odd_skipping(play):
+    """Messages with other groups and the same id, in any of the places; both flags."""
+    run = play.run
+    yield [hurt(FLAGS, MAX_FLAGS)]
+    for place, n in zip(play.messages(), (2, 3, 4)):
+        base = plain(x_with(seqno=[bytes([n])]))
+        for raw in (base, *[raw.replace(b"\x1a\x01\x01", b"\x1a\x01" + bytes([n])) for raw in GROUPED], base + group(1, b"\x08\x00" * 1990), chain([n] * 32, base) + base):
+            yield other_message(run, place, raw)
+        for raw, _ in TOPIC_MESSAGES[1:5]:
+            raw = raw.replace(b"\x1a\x01\x01", b"\x1a\x01" + bytes([n]))
+            yield other_message(run, place, group(4, tagged(4, b"v")) + raw + group(4))
+
+
 ODD_FINDERS = ((turned, odd_turned), (straight, odd_straight), (empty, odd_empty), (topical, odd_topical), (keyed, odd_keyed), (mixed, odd_mixed),
-               (turned, odd_loose), (loose, odd_loose), (empty, odd_loose))
+               (turned, odd_loose), (loose, odd_loose), (empty, odd_loose), (skipping, odd_skipping))
 
 
 def odd_histories(few=False, finders=ODD_FINDERS):
@@ -926,7 +981,7 @@ def flag_table():
     # Off, and only the unsigned form in its seen store.
     yield from [(("flagged", 1000, 4, 2, 0, 1), "ok"), (admit(100, u), "new"), (offer, "0"), (hurt(FLAGS, 0), "ok"), (seen[0], "yes"), (seen[1], "no"),
                 (offer, "45 1a2b12290a27%s" % NAME.hex()), (hurt(FLAGS, 1), "ok"), (offer, "0")]
-    yield from ((("flagged", 1000, 4, 2, 4, value), "refused 40") for value in (4, 7, 256, 65535))
+    yield from ((("flagged", 1000, 4, 2, 4, value), "refused 40") for value in (4, 5, 256, 65535))
     yield offer, "0"
 
 
@@ -959,7 +1014,7 @@ def flag_histories():
     # Flags among good settings and bad ones: refused settings change nothing.
     play = mixed()
     for settings in ((100, 4, 4, 3), (100, 0, 1, 0), (TOP, 256, 16, 64), (1, 257, 4, 3), (1, 4, 0, 3), (1, 4, 17, 3), (1, 4, 4, 65)):
-        for flags in (4, 5, 7, 255, 256, 257, 32768, 65535) + ((0, 1) if settings[0] == 1 else ()):
+        for flags in (4, 5, 7, 255, 256, 257, 32768, 65535) + ((0, 1, 2, 3) if settings[0] == 1 else ()):
             play.add(("flagged", *settings, flags), STATE, ("lookup", id_of(3)))
     yield play.add(*LOOSE_CALLS).steps
     for flags in (0, 1):
@@ -977,12 +1032,12 @@ def flag_histories():
     # Flags that are set from outside, and set back, on each state to start from.
     for make in (mixed, loose, turned, empty, topical, keyed):
         play = make()
-        for value in (0, 1, 2, 3, 65535, 65536, 2**32, 2**32 + 1, TOP):
+        for value in (0, 1, 2, 3, 4, 5, 65535, 65536, 2**32, 2**32 + 1, 2**32 + 2, TOP):
             back = healing(play.run, [hurt(FLAGS, value)])
             play.add(hurt(FLAGS, value), *CALLS, *POOR, *WHYS[:3], *LOOSE_CALLS, *back, ("lookup", id_of(3)))
         yield play.add(*CALLS).steps
     # What is tested first: 40 and 41, then 42.
-    play = mixed().add(hurt(FLAGS, 2))
+    play = mixed().add(hurt(FLAGS, 4))
     for lent in ((515, 12288), (517, 12288), (516, 12287), (516, 12288)):
         play.add(("lend", *lent), *LOOSE_CALLS, *POOR)
     yield play.steps
@@ -1196,6 +1251,124 @@ def editions_in_few_bytes():
     return play.add(in_edition(V1_2, admit(20, named_message(9) + declines(id_of(9)))), in_edition(V1_2, ask(id_of(9), b"B")), STATE).steps
 
 
+# --- groups ------------------------------------------------------------------------------------------
+
+# What an admit says of the rows that are taken; of the others there is no message.
+NO_ID = {"12020b0c": "refused 21", "12080a01420b0a01410c": "refused 34"}
+
+
+def group_table():
+    """The scope's rows about groups on a node, as (step, answer), where they are refused and where they are skipped."""
+    x, g, u = body_of(X), tagged(2, plain(X) + group(1)), tagged(2, plain(U) + group(1))
+    assert len(g) == 116
+    request, offer, declined = ("serve", ROOM, wants(NAME)), ("ask", ROOM, tells(NAME)), group(1) + declines(NAME)
+    for flags in (0, GROUPS):
+        yield ("flagged", 1000, 4, 2, 4, flags), "ok"
+        for text, *both in GROUP_ROWS:
+            row, told = bytes.fromhex(text), both[flags > 0]
+            for edition in EDITIONS:
+                yield in_edition(edition, admit(100, row)), told or NO_ID.get(text, "refused 20 0")
+                yield in_edition(edition, ("ask", ROOM, row)), told or "0"
+                yield in_edition(edition, ("serve", ROOM, row)), told or "0 0 0"
+                yield serve_in(row, NAME, edition=edition), told or "0 0 0"
+    # A message with a group is kept and served as it came; the id is that without it.
+    yield from [(admit(100, g), "new"), (admit(100, x), "dup"), (offer, "0"), (request, "116 %s 1 0" % g.hex()), (serve_in(declined, NAME), "0 0 0"),
+                (advertise(1), "48 1a2e0a2c0a01741227" + NAME.hex()), (admit(100, u), "refused 25"), (("lookup", NAME), "found"), (why(1, NAME), "listed")]
+    # The flag is needed for what is cached.
+    for value, told in ((0, "refused 42"), (1, "refused 42"), (3, None), (4, "refused 42"), (6, "refused 42"), (2, None)):
+        yield from [(hurt(FLAGS, value), "ok"), (request, told or "116 %s 1 0" % g.hex()), (("lookup", NAME), told or "found"), (beat(100), told or "ok")][:3 if value < 4 else 4]
+    # Where groups are refused; and that they are skipped from now on is not found out.
+    yield from [(("flagged", 1000, 4, 2, 4, 0), "ok"), (admit(100, g), "refused 5 3 113 at 115 in 2"), (admit(100, x), "new"),
+                (serve_in(declined, NAME), "refused 5 3 1 at 1"), (request, "114 %s 1 0" % x.hex()), (hurt(FLAGS, 2), "ok"), (admit(100, g), "dup"),
+                (serve_in(declined, NAME), "0 0 0"), (request, "114 %s 1 0" % x.hex())]
+    # Both flags, and each alone.
+    for flags, told in ((3, "new"), (2, "refused 25"), (1, "refused 5 3 47 at 49 in 2"), (0, "refused 5 3 47 at 49 in 2")):
+        yield from [(("flagged", 1000, 4, 2, 4, flags), "ok"), (admit(100, u, 0, 0), told), (admit(100, g, 0, 0), "refused 27" if flags > 1 else "refused 5 3 113 at 115 in 2")]
+    yield from ((("flagged", 1000, 4, 2, 4, value), "refused 40") for value in (4, 6, 7, 65535))
+
+
+GROUP_CALLS = [STATE, admit(20, with_group(9)), admit(20, with_group(4)), admit(20, named_message(2)), ask(*[id_of(n) for n in range(10)]),
+               ("ask", ROOM, group(3, tells(b"B")) + tells(b"C") + group(1)), serve(*[id_of(n) for n in range(10)]), ("serve", ROOM, control(group(2, iwant([id_of(2)])) + iwant([id_of(4)]))),
+               advertise(), advertise(topic=b"u"), advertise(topic=b""), why(4, id_of(4)), why(4, id_of(4), b"u"), ("lookup", id_of(2)), STATE]
+
+
+def group_histories():
+    yield [step for step, _ in group_table()]
+    # Every row, by each call and as the second body, in each mode: alone, behind a message or a request, and before them.
+    rows = [bytes.fromhex(text) for text, *_ in GROUP_ROWS + MORE_GROUP_ROWS]
+    for flags in range(MAX_FLAGS + 1):
+        play = Play(("flagged", 100, 4, 4, 3, flags), admit(10, named_message(3)))
+        for row in rows:
+            for n, body in enumerate((row, row + named_message(9), wants(id_of(3)) + row)):
+                for step in (admit(20, body), ("ask", 0, body), ("serve", ROOM, body)):
+                    play.add(in_edition(n % 2, step))
+                play.add(serve_in(body, id_of(3), edition=n % 2))
+        yield play.add(STATE, *CALLS, *GROUP_CALLS).steps
+        # The order: 40, 41, 42; the body that asks; the second body; room.
+        play = Play(("flagged", 100, 4, 4, 3, flags), admit(10, named_message(3)))
+        faulty = [*FAULTY, *rows[4:6], rows[7], rows[14]]
+        for lent in ((515, 12288), (517, 12288), (516, 12288)):
+            play.add(("lend", *lent), *[in_edition(V1_2, ("serve", 0, body), unwanted) for body, unwanted in itertools.product(faulty + READ, repeat=2)])
+        yield play.add(STATE).steps
+        # Messages: with groups of every sort, as long as they may be, and longer; by an unsigned form, too.
+        play = Play(("flagged", 100, 16, 4, 8, flags))
+        for n, raw in enumerate((*GROUPED, *[raw for raw, _ in SPOILT])):
+            raw = raw.replace(b"\x1a\x01\x01", b"\x1a\x01" + bytes([n]))
+            play.add(admit(20, tagged(2, raw)), admit(20, tagged(2, raw.replace(b"\x2a\x40" + bytes(64), b"")), 0, n % 2), serve(id_of(n)), advertise(topic=b"u"))
+        for size in (MAX_MESSAGE - 1, MAX_MESSAGE, MAX_MESSAGE + 1):
+            play.add(admit(20, tagged(2, plain(x_with(seqno=[b"s"])) + group(1, tagged(2, bytes(size - 112 - 5))))), serve(A + b"s"))
+        yield play.add(STATE, *CALLS, *GROUP_CALLS).steps
+        # What else admission asks, with groups about it.
+        play = Play(("flagged", 100, 4, 4, 3, flags), admit(16, named_message(4)))
+        for parts in caches.unfit_puts():
+            play.add(admit(20, tagged(2, group(2, plain(X)) + plain(parts) + group(1)), 0, 1), admit(1, tagged(2, plain(parts) + group(6, tagged(6, KEY))), 0, 0))
+        yield play.add(STATE, *CALLS).steps
+    # Flags that are set from outside, and set back, on a state that needs them and on states that do not.
+    for make in (skipping, turned, mixed, topical, keyed):
+        play = make()
+        for value in (0, 1, 2, 3, 4, 5, 6, 7, 2**32 + 2, TOP):
+            back = healing(play.run, [hurt(FLAGS, value)])
+            play.add(hurt(FLAGS, value), *GROUP_CALLS, *POOR, *back, ("lookup", id_of(3)))
+        yield play.add(*CALLS).steps
+    yield from group_topics()
+    # As many messages as there may be, each with a group; a reply of some of them.
+    names = [F + n.to_bytes(2, "big") for n in range(70)]
+    play = Play(("flagged", 1000, 256, 16, 64, GROUPS))
+    for n, name in enumerate(names):
+        play.add(admit(1, tagged(2, group(n + 1, b"\x08\x00" * (n % 9)) + plain(x_with(from_=[F], seqno=[name[len(F):]])) + chain([n + 1] * (n % 33)))))
+    play.add(STATE, serve(*names), serve(*names, room=5000), ask(*names), advertise())
+    for size in (MAX_BODY - 1, MAX_BODY, MAX_BODY + 1):
+        play.add(("ask", ROOM, padded(group(1) + tells(b"B"), size)), admit(2, padded(with_group(3), size)), ("ask", 0, group(1, b"\x08\x00" * (size // 2 - 1))))
+    yield play.add(STATE).steps
+
+
+def group_topics():
+    """Where topics stand in messages that have groups, with fields that look like topics in them: as told, and not a place beside it."""
+    for raw, kept in TOPIC_MESSAGES[:6]:
+        for before, after in ((group(4), b""), (group(4, tagged(4, b"v")), group(1)), (chain([4] * 32, tagged(4, b"t")), b""), (b"", group(4, tagged(4, b"t")))):
+            whole, placed = before + raw + after, [(start + len(before), size) for start, size in kept]
+            if len(whole) > MAX_MESSAGE:
+                continue
+            play = Play(("flagged", 100, 4, 2, 2, GROUPS), admit(10, tagged(2, whole)), *topics_set(0, placed), ("lookup", id_of(1)), advertise(), advertise(topic=b"v"))
+            assert play.run.broken() == [] and other_topics(play.run, 0, placed) == []
+            for step in topics_set(0, placed):
+                for value in {max(0, step[3] - 1), step[3] + 1} - {step[3]}:
+                    play.add((*step[:3], value), ("lookup", id_of(1)), *FEW)
+                play.add(step)
+            yield play.add(beat(11), *GROUP_CALLS).steps
+
+
+def groups_in_few_bytes():
+    """The scope's rows; each clause that groups have to do with broken alone; messages with groups whose topics stand elsewhere."""
+    play = Play(*[step for step, _ in group_table()], STATE)
+    play.add(*skipping().steps, STATE)
+    looks = [admit(20, with_group(4)), ("lookup", id_of(2))]
+    for clause, steps in group_breaks(skipping()):
+        if len(steps) <= 3 and clause != "flags":
+            harmed(play, clause, steps, *looks)
+    return play.add(STATE, *GROUP_CALLS, beat(21), STATE).steps
+
+
 def refusal_histories():
     """Every refusal of a body or a message, with its values, and nothing changed."""
     play = turned()
@@ -1220,16 +1393,17 @@ def refusal_histories():
 
 def named():
     for part in (refusal_histories, broken_histories, odd_histories, kept_histories, reuse_histories, lent_histories, buffer_histories, full_histories,
-                 wrap_histories, unused_histories, small_histories, contains_histories, why_histories, flag_histories, edition_histories):
+                 wrap_histories, unused_histories, small_histories, contains_histories, why_histories, flag_histories, edition_histories, group_histories):
         yield from part()
 
 
 def of_traces():
-    """The fixed histories of `trace`, and all of three calls, with the state told after the last; the fixed ones where unsigned messages are allowed, too,
-    and all of four calls with both forms of a message."""
+    """The fixed histories of `trace`, and all of three calls, with the state told after the last; the fixed ones where unsigned messages are allowed and where groups
+    are skipped, too, and all of four calls with both forms of a message."""
     for steps in traces.named():
         yield [wide(step) for step in steps] + [STATE]
         yield [("flagged", *step[1:], ALLOW_UNSIGNED) if step[0] == "set" else wide(step) for step in steps] + [STATE]
+        yield [("flagged", *step[1:], GROUPS) if step[0] == "set" else wide(step) for step in steps] + [STATE]
         # In either edition, and mixed: no body of a trace has the field that 1.2 adds, but for those that are made for it.
         yield [in_edition(n % 3 and V1_2, wide(step)) if step[0] in EDITIONED else wide(step) for n, step in enumerate(steps)] + [STATE]
     for steps in traces.declined_histories():
@@ -1284,7 +1458,7 @@ def some_hurt(r, play):
         place = near = 0
     old = value_of(run, what, place)
     if what == FLAGS:
-        return hurt(FLAGS, r.choice((0, 0, 0, 1, 1, 1, 1 - old % 2, 2, 3, 65535, 2**32 + 1, TOP)))
+        return hurt(FLAGS, r.choice((0, 0, 1, 1, 2, 3, old ^ 1, old ^ 2, 4, 5, 65535, 2**32 + 1, TOP)) % 2**64)
     if what in TOPICAL and r.randrange(3) == 0:
         return hurt(what, r.choice((0, 5, 255, 65535, 4096, r.randrange(100))), place)
     value = r.choice((old, old + 1, old - 1, old + 1, old - 1, old + r.choice((2, 3, 256)), value_of(run, what, near), value_of(run, what, near),
@@ -1339,7 +1513,7 @@ def some_topics(r, play):
     # The last sender has fields 4 in its key.
     senders = ((A, b"b"), (HASHED, b"c"), (identity(key_bytes(1, b"\x22\x01t\x22\x00")), b"\x22\x01"))
     raws = [topic_message(r, r.choice(senders)) for _ in range(r.choice((1, 2, 3)))]
-    raws = [caches.bare(raw) if play.run.cache.flags and r.randrange(2) else raw for raw in raws]
+    raws = [caches.bare(raw) if play.run.cache.flags % 2 and r.randrange(2) else raw for raw in raws]
     topics = [b"", b"t"] + [raw[start:start + size] for raw in raws if taken(raw, ALLOW_UNSIGNED) for start, size in topic_places(raw)]
     return [admit(play.run.clock, tagged(2, raw)) for raw in raws] + [advertise(topic=topic) for topic in r.sample(topics, 2)] \
         + [why(r.randrange(2), who + seqno, topic) for who, seqno in senders for topic in topics[-2:]]
@@ -1375,12 +1549,22 @@ def editioned(r, step, names):
 
 def with_flags(r, step):
     """Settings with flags; other steps as they are."""
-    return ("flagged", *step[1:], r.choice((0, 1, 1, 1, 4, 7, 65535))) if step[0] == "set" else step
+    return ("flagged", *step[1:], r.choice((0, 1, 1, 1, 2, 3, 4, 65535))) if step[0] == "set" else step
+
+
+def grouped(r, play, step):
+    """A body with groups, mostly where they are skipped; other steps as they are."""
+    often = r.randrange(30) < (20 if skips_groups(play.run.cache.flags) else 1)
+    if step[0] not in EDITIONED or len(step[-1]) > ROOM - 2000 or not often:
+        return step
+    how = r.randrange(20)
+    body = with_groups(r, step[-1]) if how > 1 else step[-1] + grouped_body(r) if how else bytes.fromhex(r.choice(GROUP_ROWS + MORE_GROUP_ROWS)[0]) + step[-1]
+    return (*step[:-1], body) if len(body) < ROOM else step
 
 
 def history(r):
     """A random history of a trace with any rooms, in which numbers are set and other lengths are lent, with a look at the state now and then. In half of
-    them flags are among the settings, and many messages have no signature. A third of the bodies come in an edition."""
+    them flags are among the settings, and many messages have no signature, or groups where these are skipped. A third of the bodies come in an edition."""
     names, topics = caches.names(r), traces.some_topics(r)
     flagged = r.randrange(2) == 0
     if flagged:
@@ -1391,7 +1575,7 @@ def history(r):
     settings = list(steps[0])
     settings[4] = r.choice((settings[4], settings[4], 16, 63, 64))
     if flagged:
-        settings[5] = r.choice((0, 1, 1, 1))
+        settings[5] = r.choice((0, 1, 1, 1, 2, 3, 3))
     pool = [(A, b"b"), (HASHED, b"c")] + names
     play = Play(tuple(settings))
 
@@ -1401,6 +1585,7 @@ def history(r):
 
     ids = traces.named_by(pool)
     for step in steps[1:]:
+        step = grouped(r, play, step)
         step = some_room(r, play, step) if step[0] in ROOMED else step
         play.add(editioned(r, step, ids) if step[0] in EDITIONED and len(step[-1]) < ROOM and r.randrange(3) == 0 else step)
         how = r.randrange(16)

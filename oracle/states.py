@@ -25,7 +25,7 @@ import struct
 
 import nodes
 from nodes import MAX_FLAGS, MAX_HISTORY, MAX_MESSAGE, MAX_MESSAGES, MAX_NAME, MAX_SEEN, MAX_TOPICS, ROOM, TOP, Refused, shown
-from places import EDITIONS, V1_1, find, with_place
+from places import EDITIONS, GROUPS, OF_GROUPS, V1_1, find, with_place
 from records import Records
 
 MAX_CONTENT = 65600
@@ -51,7 +51,7 @@ TTL, MAX_IDS, CLOCK, SEEN_START, SEEN_COUNT, EXPIRY, SEEN_LEN, HISTORY_LEN, MAX_
 
 # Every refusal that the program can show.
 LENT = {40, 41, 42}
-BODY = set(range(1, 8)) | {10, 11}
+BODY = set(range(1, 8)) | {10, 11, *OF_GROUPS}
 REFUSALS = {"set": {40}, "admit": LENT | BODY | nodes.ADMISSION, "beat": LENT | {31}, "advertise": LENT | {29, 12}, "ask": LENT | BODY | {12},
             "serve": LENT | BODY | {12}, "contains": {41, 42, 33}, "lookup": {41, 42}, "why": LENT | {29}}
 
@@ -176,7 +176,7 @@ class Cache(Rows):
 
     def misplaced(self, store, places):
         """The clauses on the topics of messages that may be taken. A slot past the count is not looked at."""
-        told = {p: topic_places(self.message_at(store, p)) for p in places}
+        told = {p: topic_places(self.message_at(store, p), self.flags) for p in places}
         if any(self.topic_count[p] != len(told[p]) for p in places):
             yield "topic count"
         kept = [(self.topic_start[k], self.topic_len[k], *one) for p in places if self.topic_count[p] == len(told[p])
@@ -196,7 +196,7 @@ class Cache(Rows):
             self.arrival[p], self.window[p], self.len[p], self.id_len[p] = self.next, 0, len(raw), len(name)
             self.ids[p * MAX_ID:p * MAX_ID + len(name)] = name
             store[p * MAX_MESSAGE:p * MAX_MESSAGE + len(raw)] = raw
-            kept = topic_places(raw)
+            kept = topic_places(raw, self.flags)
             self.topic_count[p] = len(kept)
             for k, one in zip(self.slots(p), kept):
                 self.topic_start[k], self.topic_len[k] = one
@@ -210,16 +210,16 @@ class Cache(Rows):
 
 
 @functools.lru_cache(4096)
-def topic_places(raw):
-    """Where the topics of a message that may be taken stand in it, as (start, length): its fields 4 with a length, in their order."""
-    return [(nodes.number_at(raw, place)[1], len(content)) for field, wire, place, content in nodes.fields(raw) if (field, wire) == (4, 2)]
+def topic_places(raw, flags=0):
+    """Where the topics of a message that may be taken stand in it, as (start, length): its fields 4 with a length, in their order, none in a group."""
+    return [(nodes.number_at(raw, place)[1], len(content)) for field, wire, place, content in nodes.fields(raw, flags & GROUPS) if (field, wire) == (4, 2)]
 
 
 @functools.lru_cache(4096)
 def taken(raw, flags=0):
     """(id, topics) of a cached message that admission takes with the host's word under some flags, else None."""
     try:
-        return nodes.admission((raw, nodes.read(raw, "message")[0]), True, flags)
+        return nodes.admission((raw, nodes.read(raw, "message", flags & GROUPS)[0]), True, flags)
     except Refused:
         return None
 
@@ -298,7 +298,7 @@ class Run:
         answer = node.admit(now, index, verified == 1, body, edition)
         self.clean(now)
         if answer == "new":
-            message = nodes.Body(body, edition).messages[index]
+            message = nodes.Body(body, node.spoken(edition)).messages[index]
             name = nodes.admission(message, True, self.cache.flags)[0]
             if self.max_seen:
                 self.seen.drop(self.max_seen, max(0, self.seen.count + 1 - self.max_seen))

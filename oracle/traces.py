@@ -85,6 +85,14 @@ def loosely(r, steps):
     return [(*step[:-1], loosened(r, step[-1])) if step[0] == "admit" and r.randrange(3) else step for step in steps]
 
 
+def grouped(r, step):
+    """A step whose body mostly has groups; other steps as they are."""
+    if step[0] not in ("admit", "ask", "serve") or r.randrange(4) == 0:
+        return step
+    body = caches.with_groups(r, step[-1])
+    return (*step[:-1], body) if len(body) <= ADMIT_BODY else step
+
+
 def named_by(pool):
     return sorted({who + seqno for who, seqno in pool})
 

@@ -218,7 +218,7 @@ def gateway_histories():
     bare = [caches.loose(body) for body in held]
     for play in (state_histories.turned(), state_histories.straight(), state_histories.topical(), state_histories.empty(), Play(("set", 1, 0, 1, 0)),
                  Play(("set", 1, 256, 16, 64)), Play(("set", TOP, 0, 16, 3), admit(TOP, held[0])), state_histories.mixed(), state_histories.loose(),
-                 Play(("flagged", 9, 2, 3, 2, 1), admit(1, bare[0], 0, 0))):
+                 Play(("flagged", 9, 2, 3, 2, 1), admit(1, bare[0], 0, 0)), state_histories.skipping()):
         whole = gateway_bytes(play.run)
         yield start + [("gateway", whole)] + looks + [admit(20, held[0]), beat(20), admit(TOP, held[1])] + looks + [("gateway", whole)] + looks + start + looks
         # Which messages need a signature, the saved node says; settings of a trace allow none without.
@@ -240,7 +240,7 @@ def gateway_histories():
     # Maxima that the stores do not have, some whose products do not fit a number; a clock and counts that are others.
     steps = list(start)
     for what, value in [(MAX_IDS, value) for value in (0, 3, 5, 256, 257, 516 * pow(129, -1, 2**64) % 2**64, 2**63, TOP)] \
-            + [(MAX_HELD, value) for value in (0, 2, 4, 64, 65, 2**52, 2**52 + 3, 2**63 + 3, TOP)] + [(CLOCK, TOP), (COUNT, 0), (COUNT, 4)] + [(FLAGS, value) for value in (0, 1, 4, 7, 65535, TOP)]:
+            + [(MAX_HELD, value) for value in (0, 2, 4, 64, 65, 2**52, 2**52 + 3, 2**63 + 3, TOP)] + [(CLOCK, TOP), (COUNT, 0), (COUNT, 4)] + [(FLAGS, value) for value in (0, 1, 2, 3, 4, 5, 65535, TOP)]:
         play = state_histories.turned()
         whole = gateway_bytes(play.run)
         steps += [("gateway", states.node_bytes(play.add(state_histories.hurt(what, value)).run) + whole[NODE_SIZE:])] + few

@@ -275,7 +275,7 @@ class Lines(unittest.TestCase):
         self.assertEqual(HOST.may_skip("inspect", data[:9], lines), {"1", "11", "12", "13", "20"})
         # Settings with flags that the crate has no word for, in Rust alone; others, and a record of another length, are played.
         data = b"".join(struct.pack("<IH", len(content), 21) + content
-                        for content in (bytes(14) + b"\1\0", bytes(14) + b"\2\0", bytes(14) + b"\0\1", bytes(16), bytes(14) + b"\3", bytes(13) + b"\xff\1\0"))
+                        for content in (bytes(14) + b"\3\0", bytes(14) + b"\4\0", bytes(14) + b"\0\1", bytes(16), bytes(14) + b"\4", bytes(13) + b"\xff\1\0"))
         self.assertEqual(HOST.may_skip("states", data, ["1 set ok"]), {"2", "3"})
         self.assertEqual((HOST.may_skip("states", data), HOST.may_skip("inspect", data, ["1 set ok"])), (set(), set()))
 

@@ -205,6 +205,36 @@ class Bodies(Case):
         self.assertEqual(self.shown("--edition", "1.2", "1a81082afe07 0a00*511")[0], "accepted in edition 1.2: 1,028 bytes, 512 records")
         self.assertEqual(self.shown("--edition", "1.2", "1a83082a8008 0a00*512", status=1), ["refused 11: the body has above 512 records: it has 513"])
 
+    def test_groups(self):
+        """The scope's rows: groups, refused without a word and skipped with one; in either edition."""
+        accepted = ["accepted with groups skipped: 2 bytes, no records", "canonical: no; in canonical form it has 0 bytes, 2 saved"]
+        for words in (("--groups", "0b0c"), ("0b", "0c", "--groups"), ("-", "--groups"), ("--edition", "1.1", "--groups", "0b 0c")):
+            self.assertEqual(self.shown(*words, given=b"\x0b\x0c"), accepted)
+        self.assertEqual(self.shown("--edition", "1.2", "--groups", "0b0c")[0], "accepted in edition 1.2 with groups skipped: 2 bytes, no records")
+        self.assertEqual(self.shown("0b1096010c 1a00", "--groups")[-2:], ["canonical: no; in canonical form it has 2 bytes, 5 saved:", "  1a00"])
+        self.assertEqual(self.shown("1a052a030b0c80", "--groups")[1], "control: empty")
+        self.assertEqual(self.shown("1a042a020b0c", "--groups", "--edition", "1.2")[2], "  not wanted (IDONTWANT): no ids")
+        # A message keeps its group, and its sign bytes have none.
+        lines = self.shown("12080a01420b0a01410c", "--groups", "--sign")
+        self.assertEqual(lines[:3], ["accepted with groups skipped: 10 bytes, 1 record", "message 0: 8 bytes", '  from       42 "B" (1 byte): no peer id'])
+        self.assertEqual(lines[-3:], ["canonical: yes", "sign bytes of message 0: 17 bytes", "  6c69627032702d7075627375623a0a0142"])
+        both = [self.shown(*words) for words in ((X, "--groups", "--sign"), (X.replace("12 70", "12 72") + " 0b0c", "--groups", "--sign"))]
+        self.assertEqual(both[0][2:9] + both[0][-2:], both[1][2:9] + both[1][-2:])
+        # 14 to 16 are told by their words alone.
+        for body, line in (("0c", "refused 14: an end tag with no open group, or of another number"), ("0b14", "refused 14: an end tag with no open group, or of another number"),
+                           ("0b*33", "refused 15: groups are more than 32 deep"), ("0b*32", "refused 16: the body ends inside a group"),
+                           ("1a010b0c", "refused 16: the body ends inside a group")):
+            for option in ((), ("--sign",), ("--full",), ("--edition", "1.2")):
+                self.assertEqual(self.shown("--groups", *option, "--", body, status=1), [line])
+        for text, first, second in places.GROUP_ROWS + places.MORE_GROUP_ROWS:
+            for told, words in ((first, ()), (second, ("--groups",))):
+                lines = self.shown(text, *words, status=1 if told else 0)
+                if told and " at " in told:
+                    self.assertEqual(lines[-1], "  in numbers: " + told)
+                else:
+                    self.assertEqual(lines[0].partition(":")[0], told or "accepted" + " with groups skipped" * len(words), text)
+        self.assertEqual(self.shown("00*65536 00*63", "--groups", status=1), ["refused 10: the body has above 65,536 bytes: it has 65,599 bytes"])
+
     def test_canonical(self):
         self.assertEqual(self.shown("1a00", "1a00"), ["accepted: 4 bytes, no records", "control: empty", "canonical: no; in canonical form it has 2 bytes, 2 saved:", "  1a00"])
         self.assertEqual(self.shown("1a00"), ["accepted: 2 bytes, no records", "control: empty", "canonical: yes"])
@@ -347,7 +377,7 @@ class Bodies(Case):
         status, out, err = self.call("-h")
         self.assertEqual((status, err), (0, ""))
         examples = re.findall(r"^  tools/inspect (.*)$", out, re.MULTILINE)
-        self.assertEqual(len(examples), 8)
+        self.assertEqual(len(examples), 9)
         self.addCleanup(os.chdir, os.getcwd())
         os.chdir(TOP)
         for line in examples:
@@ -380,19 +410,21 @@ class Bodies(Case):
         import bodies
         r = random.Random(3)
         words, show = INSPECT.running(PROGRAM), INSPECT.Shown(False)
-        for number, edition in enumerate(INSPECT.EDITIONS):
+        accepted = ("accepted: ", "accepted in edition 1.2: ", "accepted with groups skipped: ", "accepted in edition 1.2 with groups skipped: ")
+        for dialect in places.DIALECTS:
             seen = set()
             for body in [*bodies.named(), *(bodies.random_body(r) for _ in range(40)), *(bodies.messages_body(r) for _ in range(20)), bodies.many(r, 500),
-                         *(bodies.declining_body(r) for _ in range(40)), *(bytes.fromhex(text) for text, *_ in places.EDITION_ROWS)]:
-                lines, status = INSPECT.answer(words, body, INSPECT.ALL, show, edition)
-                self.assertTrue(lines[0].startswith("refused " if status else ("accepted: ", "accepted in edition 1.2: ")[number]))
+                         *(bodies.declining_body(r) for _ in range(40)), *(bytes.fromhex(text) for text, *_ in places.EDITION_ROWS),
+                         *(bodies.grouped_body(r) for _ in range(40))]:
+                lines, status = INSPECT.answer(words, body, INSPECT.ALL, show, dialect)
+                self.assertTrue(lines[0].startswith("refused " if status else accepted[dialect]))
                 seen.update(line.split()[0] for line in lines if line)
-                place = places.find(body, number)
+                place = places.find(body, dialect)
                 if place:
                     self.assertEqual(lines[-1].partition(" at ")[2], places.words(place).removeprefix(" at "))
             for word in ("subscribe", "message", "from", "offer", "request", "graft:", "prune:", "peer", "canonical:", "sign"):
                 self.assertIn(word, seen)
-            self.assertEqual("not" in seen, edition == "1.2")
+            self.assertEqual("not" in seen, places.edition_of(dialect) == places.V1_2)
 
 
 # Of each mistake: the words, and what is said of it.
@@ -436,6 +468,8 @@ MISTAKES = [
     (("1a00", "--edition"), "argument --edition: expected one argument"),
     (("--edition", "1.2", "--key", "00"), "--edition is for a body, and a key has none"),
     (("--peer", "00", "--edition", "1.1"), "--edition is for a body, and a peer id has none"),
+    (("--groups", "--key", "00"), "--groups is for a body, and a key has none"),
+    (("--peer", "00", "--groups"), "--groups is for a body, and a peer id has none"),
     (("--key", "--sign", "--", "00"), "argument --sign: not allowed with argument --key"),
 ]
 
@@ -515,10 +549,14 @@ class Programs(Case):
         self.assertEqual(self.told(self.stub("bad"), "--edition", "1.2", "1a00"), "inspect: the program does not know edition 1.2: it is of an earlier version, and "
                          "`rt check inspect` makes it anew\n")
         self.assertIn("none that it should give", self.told(self.stub("bad"), "--edition", "1.1", "1a00"))
-        # In 1.1 it is asked as ever.
-        for edition, kind in (("1.1", b"\x01\x00\x1a\x00"), ("1.2", b"\x15\x00\x01\x1a\x00")):
+        for words, what in ((("--groups",), "groups"), (("--groups", "--edition", "1.2"), "edition 1.2, or groups")):
+            self.assertEqual(self.told(self.stub("bad"), *words, "--", "1a00"), "inspect: the program does not know %s: it is of an earlier version, and `rt check inspect` "
+                             "makes it anew\n" % what)
+        # In 1.1, where groups are refused, it is asked as ever.
+        for words, kind in ((("--edition", "1.1"), b"\x01\x00\x1a\x00"), (("--edition", "1.2"), b"\x15\x00\x01\x1a\x00"), (("--groups",), b"\x15\x00\x02\x1a\x00"),
+                            (("--groups", "--edition", "1.2"), b"\x15\x00\x03\x1a\x00")):
             with mock.patch.object(INSPECT, "printed", side_effect=INSPECT.Failure("asked")) as asked:
-                self.assertIn("asked", self.told(self.stub(""), "--edition", edition, "1a00"))
+                self.assertIn("asked", self.told(self.stub(""), *words, "--", "1a00"))
             self.assertEqual(asked.call_args[0][1][4:4 + len(kind)], kind)
 
     def test_a_program_without_keys(self):
@@ -527,9 +565,9 @@ class Programs(Case):
                              "`rt check inspect` makes it anew\n")
 
     def test_refusals_of_later_numbers(self):
-        program = self.stub("1 decode refused 14 3\n2 encode refused 14 3")
+        program = self.stub("1 decode refused 17 3\n2 encode refused 17 3")
         with mock.patch.object(INSPECT.x86, "running", lambda path: [path]):
-            self.assertEqual(self.shown("--program", program, "1a00", status=1), ["refused 14"])
+            self.assertEqual(self.shown("--program", program, "1a00", status=1), ["refused 17"])
 
     def test_a_program_without_places(self):
         program = self.stub("1 decode refused 1\n2 encode refused 1")

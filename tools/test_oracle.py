@@ -1,6 +1,6 @@
 #!/usr/bin/env python3
 """Tests of what the oracle's comparisons and bench/bench say where something is missing, of the finder of places, of the models' peer ids, keys and
-admission, and of the models of editions and of lists. They need neither the Rust's files nor a program.
+admission, and of the models of editions, of groups and of lists. They need neither the Rust's files nor a program.
 
     python3 tools/test_oracle.py
 """
@@ -23,7 +23,9 @@ import admissions  # noqa: E402
 import bodies  # noqa: E402
 import caches  # noqa: E402
 import compare_editions  # noqa: E402
+import compare_groups  # noqa: E402
 import editions  # noqa: E402
+import groups  # noqa: E402
 import keys  # noqa: E402
 import lists  # noqa: E402
 import nodes  # noqa: E402
@@ -34,11 +36,11 @@ import state_histories  # noqa: E402
 import states  # noqa: E402
 import traces  # noqa: E402
 import wire  # noqa: E402
-from places import V1_1, V1_2  # noqa: E402
+from places import DIALECTS, GROUPS, V1_1, V1_2, skips_groups  # noqa: E402
 
-RUST = ("compare_wire", "compare_decode", "compare_write", "compare_editions", "compare_caches", "compare_keys", "compare_admission", "compare_lists")
-PROGRAM = {"compare_wire": "inspect", "compare_decode": "inspect", "compare_write": "inspect", "compare_editions": "inspect", "compare_caches": "caches", "compare_trace": "trace",
-           "compare_states": "states", "make_states": "states", "compare_why": "why", "make_why": "why", "compare_keys": "inspect",
+RUST = ("compare_wire", "compare_decode", "compare_write", "compare_editions", "compare_groups", "compare_caches", "compare_keys", "compare_admission", "compare_lists")
+PROGRAM = {"compare_wire": "inspect", "compare_decode": "inspect", "compare_write": "inspect", "compare_editions": "inspect", "compare_groups": "inspect", "compare_caches": "caches",
+           "compare_trace": "trace", "compare_states": "states", "make_states": "states", "compare_why": "why", "make_why": "why", "compare_keys": "inspect",
            "compare_admission": "states", "compare_lists": "inspect"}
 
 
@@ -148,10 +150,10 @@ class Case(unittest.TestCase):
         self.assertFalse(os.path.exists(os.path.join(build, "target")))
 
 
-def model(body, edition=V1_1):
+def model(body, dialect=V1_1):
     """Why the model's reader refuses a body, in the words of a line without a place; None where it takes it."""
     try:
-        nodes.Body(body, edition)
+        nodes.Body(body, dialect)
     except nodes.Refused as why:
         return "refused " + " ".join(map(str, why.args))
     return None
@@ -358,6 +360,150 @@ class Editions(unittest.TestCase):
             self.assertEqual(states.RECORDS.step_of(26, content), ("serve_in", 1, 0, b"abc"[:size], b"abc"[size:]) if ok else None)
 
 
+class Groups(unittest.TestCase):
+    """The model that skips groups, beside the other two, which share nothing of that with it."""
+
+    def test_the_rows(self):
+        for text, *told in places.GROUP_ROWS + places.MORE_GROUP_ROWS:
+            body = bytes.fromhex(text)
+            for dialect in DIALECTS:
+                line = told[skips_groups(dialect)]
+                self.assertEqual(places.with_place(model(body, dialect), places.find, body, dialect), line, text)
+                first = groups.lines(("decode", body, 0), dialect)[0]
+                self.assertEqual(first.startswith("decode ok") if line is None else first == "decode " + line, True, text)
+        self.assertEqual(len(places.GROUP_ROWS), 30)
+        self.assertEqual({text for text, _, second in places.GROUP_ROWS if second is None}, set(compare_groups.WRITTEN))
+        for case, dialect, told in compare_groups.row_lines():
+            self.assertEqual(groups.lines(case, dialect), ["%s %s" % (case[0], told)] if case[0] != "decode" else [groups.lines(case, dialect)[0]])
+
+    def test_depth(self):
+        for number in (1, 15, 16, 2**29 - 1):
+            for depth, told in ((1, None), (31, None), (32, None), (33, "refused 15"), (40, "refused 15"), (2000, "refused 15")):
+                whole = bodies.chain([number] * depth)
+                for body in (whole, bodies.tagged(3, whole), bodies.chain([7] * 31) + whole, bodies.tagged(3, bodies.tagged(4, bodies.tagged(2, whole)))):
+                    self.assertEqual(model(body, GROUPS), told)
+                self.assertEqual(model(whole[:-1], GROUPS), told or ("refused 16" if number < 16 else "refused 1"))
+        # A group of 32,767 fields, and as many groups as there is room for.
+        for body in (bodies.group(1, b"\x08\x00" * 32767), bodies.group(1) * 32768, bodies.chain([1] * 32) * 1024):
+            self.assertEqual((len(body), model(body, GROUPS), groups.step(body, 0, GROUPS)[:3]), (65536, None, (1, 3, 1)))
+
+    def test_beside_the_others(self):
+        r, met = random.Random(5), set()
+        some = itertools.islice(bodies.group_bodies(), 0, None, 37)
+        for body in itertools.chain(some, itertools.islice(bodies.deep_bodies(), 0, None, 5), bodies.placed_groups(), bodies.named(), (bodies.grouped_body(r) for _ in range(1200)),
+                                    (bodies.grouped_messages(r) for _ in range(300)), (bodies.declining_body(r) for _ in range(200))):
+            for dialect in (V1_1 | GROUPS, V1_2 | GROUPS):
+                first, *rest = groups.lines(("decode", body, 0), dialect)
+                told = model(body, dialect)
+                if told is None:
+                    self.assertEqual(first.split(" ")[:3], ["decode", "ok", str(len(rest))], body.hex())
+                    self.assertEqual(nodes.Body(body, dialect).records, len(rest))
+                else:
+                    self.assertEqual(first, "decode " + places.with_place(told, places.find, body, dialect), body.hex())
+                    met.add((int(told.split(" ")[1]), places.find(body, dialect).fields) if " 11 " not in told else 11)
+        wanted = {(number, path) for number in (*places.OF_A_BODY, *places.OF_GROUPS) for path in (places.TEXT_PATHS if number == places.NOT_UTF8 else places.PATHS[V1_2])}
+        self.assertLessEqual(wanted, met)
+
+    def test_between_the_modes(self):
+        """What the first mode accepts the second accepts, alike; they differ where the first refuses type 3 or 4. What is written has no groups outside messages, and what
+        is signed has none."""
+        r, accepted, alike = random.Random(6), 0, 0
+        for body in itertools.chain(itertools.islice(bodies.group_bodies(), 0, None, 41), (bodies.grouped_body(r) for _ in range(1200)), (bodies.grouped_messages(r) for _ in range(400)),
+                                    (bodies.random_body(r) for _ in range(400))):
+            for edition in (V1_1, V1_2):
+                calls = [(call, body, 0) for call in ("decode", "encode", "sign", "id", "walk")]
+                first, second = ([groups.lines(case, edition | mode) for case in calls] for mode in (0, GROUPS))
+                for one, other in zip(first, second):
+                    self.assertTrue(one == other or groups.differ(one[0]), body.hex())
+                    alike += one == other
+                if " refused " in second[0][0]:
+                    continue
+                accepted += 1
+                rpc = groups.read(body, edition | GROUPS)
+                made = editions.encoded(rpc, edition)
+                self.assertLessEqual(len(made), len(body))
+                self.assertEqual(editions.encoded(groups.read(made, edition | GROUPS), edition), made)
+                # Around its messages it is a body of the first mode.
+                around = b"".join(piece for field, wire, piece in caches.cut(made, GROUPS) if (field, wire) != (2, 2))
+                self.assertEqual(groups.lines(("encode", around, 0), edition), groups.lines(("encode", around, 0), edition | GROUPS))
+                self.assertNotIn(" refused ", groups.lines(("encode", around, 0), edition)[0])
+                for message in rpc.each("publish"):
+                    signed = editions.signed(message, edition)[len(editions.PREFIX):]
+                    self.assertEqual(model(bodies.tagged(2, signed)), None)
+                    self.assertEqual({wire for _, wire, _, _ in nodes.fields(signed)} - {2}, set())
+        self.assertGreater(accepted, 1000)
+        self.assertGreater(alike, 8000)
+
+    def test_walks(self):
+        r = random.Random(7)
+        for body in itertools.chain((bytes.fromhex(text) for text, *_ in places.GROUP_ROWS + places.MORE_GROUP_ROWS), (bodies.grouped_body(r) for _ in range(600))):
+            for dialect in DIALECTS:
+                fields = []
+                for field, wire, place, content in self.fields(body, dialect):
+                    fields.append((field, wire, place))
+                at, got = 0, []
+                try:
+                    while (step := groups.step(body, at, dialect)) is not None:
+                        got.append(step[:3])
+                        at = step[3]
+                    told = None
+                except groups.Refused as why:
+                    told = str(why)
+                self.assertEqual(got, fields, body.hex())
+                place = places.find_field(body, at, dialect)
+                self.assertEqual(told is None, place is None)
+                self.assertTrue(told is None or told == places.with_place(places.parted(told)[0], places.find_field, body, at, dialect), body.hex())
+
+    def fields(self, body, dialect):
+        try:
+            yield from nodes.fields(body, dialect)
+        except nodes.Refused:
+            pass
+
+    def test_on_a_node(self):
+        table = list(state_histories.group_table())
+        lines = states.expected(states.records([step for step, _ in table]))
+        self.assertEqual([line.split(" ", 2)[2] for line in lines], [told for _, told in table])
+        # Each clause that groups have to do with is broken alone, and the odd states are well formed.
+        for clause, steps in state_histories.group_breaks(state_histories.skipping()):
+            self.assertEqual(state_histories.skipping().add(*steps).run.broken(), [clause])
+        for steps in state_histories.odd_skipping(state_histories.skipping()):
+            self.assertEqual(state_histories.skipping().add(*steps).run.broken(), [])
+
+    def test_messages(self):
+        """A message with groups has the id, the topics and the sign bytes of the one without, and its own bytes."""
+        plain = caches.plain(caches.X)
+        for raw in caches.GROUPED:
+            known = nodes.read(raw, "message", GROUPS)[0]
+            self.assertEqual((known, nodes.admission((raw, known), True, GROUPS)), (nodes.read(plain, "message")[0], (caches.NAME, [b"t"])))
+            message, = groups.read(bodies.tagged(2, raw), GROUPS).each("publish")
+            self.assertEqual((message.raw, caches.without_groups(message), editions.signed(message, V1_1)[14:]), (raw, plain, plain[:-66]))
+            self.assertEqual(len(states.topic_places(raw, GROUPS)), 1)
+            self.assertIsNone(states.taken(raw))
+        for raw, number in caches.SPOILT:
+            self.assertTrue(model(bodies.tagged(2, raw), GROUPS).startswith("refused %d" % number), raw.hex())
+
+    def test_random_histories(self):
+        """Most calls are answered, in histories of caches and of nodes, and messages with groups are kept."""
+        r, kept, met = random.Random(9), 0, collections.Counter()
+        for _ in range(250):
+            run = states.Run(state_histories.history(r))
+            for _, raw, *_ in run.held()[1] if not run.broken() else ():
+                kept += skips_groups(run.cache.flags) and states.taken(raw) is None
+        self.assertGreater(kept, 40)
+        for _ in range(300):
+            flags = 0
+            for step in caches.grouped_history(r):
+                flags = caches.flags_of(step) if step[0] == "flagged" and caches.legal(step) else flags
+                if step[0] == "put" and skips_groups(flags):
+                    met["refused" if model(step[-1], GROUPS) else "read"] += 1
+        self.assertGreater(met["read"], met["refused"])
+
+    def test_records(self):
+        self.assertEqual(wire.record(("walk", b"\x0b\x0c", 258), V1_2 | GROUPS).hex(), "0b000000" + "1900" + "03" + "0201000000000000" + "0b0c")
+        self.assertEqual(wire.record(("decode", b"\x0b\x0c", 0), GROUPS).hex(), "03000000" + "1500" + "02" + "0b0c")
+
+
 def field(number, data):
     return b"" if data is None else bytes([number * 8 + 2]) + wire.varint(len(data)) + data
 
@@ -449,7 +595,7 @@ class Senders(unittest.TestCase):
             self.assertFalse(nodes.is_signed(message))
             self.assertEqual(nodes.admission(message, False, 1), (caches.NAME, [b"t"]))
         # A setting is legal up to the known flags.
-        for flags in range(7):
+        for flags in range(9):
             try:
                 nodes.Node(0, 0, 1, 0, flags)
                 self.assertLess(flags, 4)

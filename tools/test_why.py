@@ -104,9 +104,9 @@ class Answers(Case):
             self.assertEqual(self.told(A04, "t", 1, 1, self.file("other", saved.sealed(rest))), line)
 
     def test_flags(self):
-        """A gateway that allows unsigned messages is asked as others are; one under flags that are not known is none."""
+        """A gateway that allows unsigned messages or skips groups is asked as others are; one under flags that are not known is none."""
         end = saved.NODE_SIZE
-        for flags, line in ((0, "listed\n"), (1, "listed\n"), (2, None), (3, None), (2**63, None)):
+        for flags, line in ((0, "listed\n"), (1, "listed\n"), (2, "listed\n"), (3, "listed\n"), (4, None), (7, None), (2**63, None)):
             path = self.file("other", saved.sealed(TURNED[:end - 8] + flags.to_bytes(8, "little") + TURNED[end:]))
             wanted = line or "the saved state is refused 42: node and stores, or the rows of an RPC, are not well formed\n"
             self.assertEqual(self.told(A04, "t", 1, 0 if line else 1, path), wanted)

@@ -38,7 +38,10 @@
 
 #include "pradulins.h"
 
-/* The settings of a new gateway. An id counts as seen for an hour, and every message must be signed: PRADULINS_ALLOW_UNSIGNED is for a training mesh alone. */
+/*
+ * The settings of a new gateway. An id counts as seen for an hour. Every message must be signed: PRADULINS_ALLOW_UNSIGNED is for a training mesh alone. And groups are
+ * refused: PRADULINS_GROUPS is for a mesh all of whose gateways skip them.
+ */
 enum { TTL = 3600000, MAX_SEEN = 256, HISTORY_LEN = 4, MAX_MESSAGES = 64, FLAGS = 0 };
 
 /* The most windows that are offered. */
@@ -46,6 +49,9 @@ enum { WINDOWS = 4 };
 
 /* The edition in which a body is read. A file has none: a real gateway takes that of the stream by which the body came, which both sides agreed on. */
 enum { EDITION = PRADULINS_V1_1 };
+
+/* What calls on a body alone are told: the edition, and the mode in which the gateway reads. */
+enum { DIALECT = EDITION | (FLAGS & PRADULINS_GROUPS) };
 
 /* A node and its two stores. The stores lie one after the other, as in a saved state. */
 struct gateway {
@@ -225,7 +231,7 @@ static int load(struct gateway *g, const char *path)
     if (r)
         return refused(path, r, values);
     if (values[SET_FLAGS] != FLAGS)
-        return failed(path, "the state is of a gateway with other flags: one of a training mesh is not for production");
+        return failed(path, "the state is of a gateway with other flags: all of a mesh are set alike, and a training mesh is not for production");
     if (lend_stores(g, values[SET_MAX_SEEN], values[SET_MAX_MESSAGES]))
         return 1;
     if (len - HEADER - PRADULINS_NODE_SIZE != g->seen_len + g->cache_len)
@@ -386,7 +392,7 @@ static int admit_all(struct gateway *g, const struct clock *clock, const uint8_t
     static uint8_t sign[PRADULINS_SIGN_SIZE];
     uint64_t values[PRADULINS_VALUES];
     int bad = 0;
-    uint32_t r = pradulins_decode(EDITION, body, body_len, table, PRADULINS_TABLE_WORDS, values);
+    uint32_t r = pradulins_decode(DIALECT, body, body_len, table, PRADULINS_TABLE_WORDS, values);
     if (r) {
         printf("the body is ");
         put_refusal(stdout, r, values, true);
@@ -397,7 +403,7 @@ static int admit_all(struct gateway *g, const struct clock *clock, const uint8_t
         const uint64_t *record = table + i * PRADULINS_RECORD_WORDS;
         if (record[PRADULINS_RECORD_KIND] != PRADULINS_KIND_MESSAGE)
             continue;
-        r = pradulins_sign_bytes(EDITION, body, body_len, index, sign, sizeof sign, values);
+        r = pradulins_sign_bytes(DIALECT, body, body_len, index, sign, sizeof sign, values);
         if (!r) {
             bool word = verified(sign, values[0], record, body);
             r = pradulins_admit(g->node, g->seen, g->seen_len, g->cache, g->cache_len, EDITION, body, body_len, index, word, read_clock(clock), values);

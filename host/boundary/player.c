@@ -3,9 +3,11 @@
  * expected. For what the interface does not have (kinds 6 to 9 of `inspect`, 9 and 10 of `states`) the line is the record's number and `-`. Beside that
  * it watches the memory of each call: a refused one changes none but `values`, one that succeeds writes only what it counts, and `values` gets as many
  * numbers as the header says. Each call on a body or on rows is made again with room that just suffices and with one byte or number less, and each on a body under other
- * numbers of the same edition: only the lowest bit counts. A reply without a second body is also made with second bodies that decline nothing. Rows are also written where
- * unsigned messages are allowed, which changes nothing where all messages have a signature, and under flags that are not known. Before each call on a node,
- * pradulins_settings and pradulins_state are asked: they tell what stands in the node's bytes, or the refusal that the call then answers.
+ * numbers of the same dialect or edition: only the two lowest bits count, or the lowest. Where groups are refused, each call on a body is also made where they are skipped:
+ * it answers the same, unless the body was refused by the type of a group. A reply without a second body is also made with second bodies that decline nothing. Rows are also
+ * written where unsigned messages are allowed, which changes nothing where all messages have a signature, where groups are skipped, which changes nothing at all, and under
+ * flags that are not known. Before each call on a node, pradulins_settings and pradulins_state are asked: they tell what stands in the node's bytes, or the refusal that the
+ * call then answers.
  */
 #include "player.h"
 
@@ -266,6 +268,19 @@ static uint32_t other_number(uint32_t edition)
     return edition ^ more[n % (sizeof more / sizeof *more)];
 }
 
+/* The same dialect by another number: only the two lowest bits count. */
+static uint32_t other_dialect(uint32_t dialect)
+{
+    static const uint32_t more[] = {4, UINT32_C(1) << 31, 256, UINT32_MAX - 3};
+    return dialect ^ more[n % (sizeof more / sizeof *more)];
+}
+
+/* Whether a body was refused since a group begins or ends: in the other mode it is read otherwise. */
+static int is_group(uint32_t number)
+{
+    return number == PRADULINS_WIRE_TYPE && (values[0] == 3 || values[0] == 4);
+}
+
 /* The same call with other room: what it answered before, with the room that it needed and with none to spare; and 12 with less. */
 static void rooms(uint64_t kind, uint32_t dialect, const uint8_t *body, size_t len, size_t index, uint32_t r)
 {
@@ -273,7 +288,7 @@ static void rooms(uint64_t kind, uint32_t dialect, const uint8_t *body, size_t l
     memcpy(place, values + PRADULINS_OFFSET, sizeof place);
     size_t unit = kind == 1 ? PRADULINS_RECORD_WORDS : 1, needed = r ? 0 : first * unit;
     before();
-    uint32_t again = body_call(kind, other_number(dialect), body, len, index, needed);
+    uint32_t again = body_call(kind, other_dialect(dialect), body, len, index, needed);
     after(again, kind == 1 ? 2 : 1, kind == 1 || again ? 0 : values[0], kind == 1 && !again ? values[0] : 0, 1);
     expect(again == r && (pradulins_refusal_values(r) == 0 || values[0] == first), "another answer with just enough room");
     expect(memcmp(place, values + PRADULINS_OFFSET, sizeof place) == 0, "another place with just enough room");
@@ -285,10 +300,24 @@ static void rooms(uint64_t kind, uint32_t dialect, const uint8_t *body, size_t l
     }
 }
 
+/* The same call where groups are skipped: where none is met, the answer `r`, the values and what was written stay. */
+static void skipping(uint64_t kind, uint32_t dialect, const uint8_t *body, size_t len, size_t index, size_t room, uint32_t r)
+{
+    uint64_t first[PRADULINS_VALUES];
+    if (dialect & PRADULINS_GROUPS || is_group(r))
+        return;
+    memcpy(first, values, sizeof first);
+    before();
+    uint32_t again = body_call(kind, dialect | PRADULINS_GROUPS, body, len, index, room);
+    expect(again == r && memcmp(first, values, sizeof first) == 0, "another answer where groups are skipped");
+    expect(memcmp(made, made_before, sizeof made) == 0 && memcmp(table, table_before, sizeof table) == 0, "something else is written where groups are skipped");
+}
+
 static void inspect_body(uint64_t kind, uint32_t dialect, const char *word, const uint8_t *body, size_t len, size_t index, size_t room)
 {
     uint32_t r = body_call(kind, dialect, body, len, index, room);
     after(r, kind == 1 ? 2 : 1, kind == 1 || r ? 0 : values[0], kind == 1 && !r ? values[0] : 0, 1);
+    skipping(kind, dialect, body, len, index, room, r);
     start_line(word);
     if (r) {
         put_refused(r, 1);
@@ -305,10 +334,23 @@ static void inspect_body(uint64_t kind, uint32_t dialect, const char *word, cons
     rooms(kind, dialect, body, len, index, r);
 }
 
-static void inspect_walk(const uint8_t *body, size_t len, size_t at)
+/* The same step under another number of the dialect and in the other edition, which does not matter; and where groups are skipped, if none is met. */
+static void same_step(uint32_t dialect, const uint8_t *body, size_t len, size_t at, uint32_t r)
 {
-    uint32_t r = pradulins_walk(body, len, at, values);
+    const uint32_t others[] = {other_dialect(dialect), dialect ^ PRADULINS_V1_2, dialect | PRADULINS_GROUPS};
+    uint64_t first[PRADULINS_VALUES];
+    memcpy(first, values, sizeof first);
+    for (int i = 0; i < (is_group(r) ? 2 : 3); i++) {
+        before();
+        expect(pradulins_walk(others[i], body, len, at, values) == r && memcmp(first, values, sizeof first) == 0, "another step of a walk");
+    }
+}
+
+static void inspect_walk(uint32_t dialect, const uint8_t *body, size_t len, size_t at)
+{
+    uint32_t r = pradulins_walk(dialect, body, len, at, values);
     after(r, !r && values[0] == 0 ? 1 : 4, 0, 0, 1);
+    same_step(dialect, body, len, at, r);
     start_line("walk");
     if (r)
         put_refused(r, 1);
@@ -372,14 +414,15 @@ static int all_signed(size_t count)
 /* The rows written under other flags: they answered `r` with `first` under none. What is then made, where they are written, stands in `made` already. */
 static void other_flags(size_t count, const uint8_t *bytes, size_t len, size_t room, uint32_t r, uint64_t first)
 {
-    static const uint32_t unknown[] = {2, 3, UINT32_C(1) << 16, UINT32_MAX};
+    static const uint32_t unknown[] = {4, 7, UINT32_C(1) << 16, UINT32_MAX};
+    static const uint32_t known[] = {PRADULINS_GROUPS, PRADULINS_ALLOW_UNSIGNED, PRADULINS_ALLOW_UNSIGNED | PRADULINS_GROUPS};
     for (size_t i = 0; i < sizeof unknown / sizeof *unknown; i++)
         expect(rows_call(10, count, bytes, len, unknown[i], 0, room) == PRADULINS_BAD_SETTING, "flags that are not known are taken");
-    uint32_t allowed = rows_call(10, count, bytes, len, PRADULINS_ALLOW_UNSIGNED, 0, room);
-    if (!all_signed(count))
-        return;
-    expect(allowed == r && ((r && pradulins_refusal_values(r) == 0) || values[0] == first), "another answer where unsigned messages are allowed");
-    expect(r || memcmp(made, made_before, sizeof made) == 0, "other bytes where unsigned messages are allowed");
+    for (size_t i = 0; i < (all_signed(count) ? sizeof known / sizeof *known : 1); i++) {
+        uint32_t again = rows_call(10, count, bytes, len, known[i], 0, room);
+        expect(again == r && ((r && pradulins_refusal_values(r) == 0) || values[0] == first), "another answer under other flags");
+        expect(r || memcmp(made, made_before, sizeof made) == 0, "other bytes under other flags");
+    }
 }
 
 /* room, count, so many rows, and the bytes that they are over; before that, of kind 11, an index. */
@@ -447,11 +490,16 @@ static int inspect(uint64_t kind, size_t len)
     case 22:
     case 23:
     case 24:
-        return len > 0 && content[0] <= 1 && inspect_in(kind - 20, content[0], 1, len);
+        return len > 0 && content[0] <= 3 && inspect_in(kind - 20, content[0], 1, len);
     case 5:
         if (len < 8)
             return 0;
-        inspect_walk(content + 8, len - 8, number_at(content, 0, 8));
+        inspect_walk(PRADULINS_V1_1, content + 8, len - 8, number_at(content, 0, 8));
+        return 1;
+    case 25:
+        if (len < 9 || content[0] > 3)
+            return 0;
+        inspect_walk(content[0], content + 9, len - 9, number_at(content, 1, 8));
         return 1;
     case 6:
     case 7:

@@ -1,6 +1,6 @@
 """The rows of the scope's tables, as records of the programs `inspect` and `states`, with the lines that the scope asks for.
 
-Each line is written from the scope, not from a program; those about the place of a refusal stand in oracle/places.py. `inspect()`, `editions()`, `lists()` and
+Each line is written from the scope, not from a program; those about the place of a refusal stand in oracle/places.py. `inspect()`, `editions()`, `groups()`, `lists()` and
 `states()` give (input, lines). Refusal 33 is not here: the seen part alone has it, which the C interface does not lend.
 """
 
@@ -178,6 +178,74 @@ def editions():
     return records, lines
 
 
+# ---- bodies with groups, in all dialects
+
+GROUPS = 2
+DIALECTS = (V1_1, V1_2, V1_1 | GROUPS, V1_2 | GROUPS)
+
+# Of the bodies that are accepted where groups are skipped: what each is written as, and its records.
+SKIPPED = {
+    "0b0c": ("",), "1b1c": ("",), "83018401": ("",), "0b13140c": ("",), "0b" * 32 + "0c" * 32: ("",), "1a40" + "0b" * 32 + "0c" * 32: ("1a00",),
+    "12020b0c": ("12020b0c", "message =0b0c - - - - -"), "12080a01420b0a01410c": ("12080a01420b0a01410c", "message =0a01420b0a01410c =42 - - - -"), "1a020b0c": ("1a00",),
+    "0a050b1201ff0c": ("0a00", "sub - -"), "0b1096010c1a00": ("1a00",), "2a010b": ("",),
+}
+# Sign bytes of the first message, where there is one.
+SKIPPED_SIGNED = {"12020b0c": "14 " + PREFIX, "12080a01420b0a01410c": "17 %s0a0142" % PREFIX}
+# Bodies, places, and what a step of a walk finds where groups are skipped.
+SKIPPED_STEPS = (
+    ("0b1096010c1a00", 0, "1 3 1 5"), ("0b1096010c1a00", 5, "3 2 6 7"), ("0b1096010c1a00", 7, "end"), ("0b1096010c1a00", 4, "refused 14"),
+    ("83018401", 0, "16 3 2 4"), ("1a010b0c", 0, "3 2 1 3"), ("1a010b0c", 2, "1 3 3 4"), ("1a010b0c", 3, "refused 14"), ("12010c", 0, "2 2 1 3"), ("12010c", 2, "refused 14"),
+    ("0b" * 33 + "0c" * 33, 0, "refused 15"), ("0b" * 33 + "0c" * 33, 1, "1 3 2 65"), ("0b" * 33, 1, "refused 16"), ("0b0c0c", 0, "1 3 1 2"),
+)
+
+
+def group_rows():
+    """(dialect, call, body, place, lines)."""
+    for body, first, second in places.GROUP_ROWS:
+        for dialect in DIALECTS:
+            told = second if dialect & GROUPS else first
+            if told:
+                for call in ("decode", "encode", "sign", "id"):
+                    yield dialect, call, body, 0, [told]
+                # A walk enters no submessage, and a step of it is one field.
+                if " in " not in told and not (dialect & GROUPS and body in ("1a010b0c", "12010c", "0b0c0c")):
+                    yield dialect, "walk", body, 0, [told]
+                continue
+            written, *records = SKIPPED[body]
+            yield dialect, "decode", body, 0, ["ok %d %s" % (len(records), "control" if written == "1a00" else "plain")] + ["  " + one for one in records]
+            yield dialect, "encode", body, 0, ["%d %s" % (len(written) // 2, written) if written else "0"]
+            yield dialect, "sign", body, 0, [SKIPPED_SIGNED.get(body, "refused 20 0")]
+            yield dialect, "id", body, 0, ["refused " + {"12020b0c": "21", "12080a01420b0a01410c": "23"}.get(body, "20 0")]
+    for body, place, told in SKIPPED_STEPS:
+        for edition in (V1_1, V1_2):
+            yield edition | GROUPS, "walk", body, place, [told]
+    # Beside a message, in it, and around it: its id and its sign bytes are those of X.
+    for dialect in (V1_1 | GROUPS, V1_2 | GROUPS):
+        for body in (X + b"\x0b\x0c", b"\x0b\x0c" + X, field(2, X[2:] + b"\x0b\x0c"), field(2, b"\x23\x22\x01\xff\x24" + X[2:]), b"\x13" + X + b"\x14" + X):
+            yield dialect, "sign", body.hex(), 0, [SIGNED]
+            yield dialect, "id", body.hex(), 0, ["39 %s01" % SENDER.hex()]
+    # The most records, and the longest group: it is none of them.
+    for n, told in ((512, "1024 " + "0a00" * 512), (513, "refused 11 513")):
+        yield V1_2 | GROUPS, "encode", "0a00" * n + "0b" + "0a00" * n + "0c", 0, [told]
+    yield V1_1 | GROUPS, "encode", "0b" + "0800" * 32767 + "0c", 0, ["0"]
+    yield V1_1 | GROUPS, "encode", "0b" + "0800" * 32768 + "0c", 0, ["refused 10 65538"]
+    # What has no group is told alike in both modes.
+    for call, body, place, told in rows():
+        if " refused 5 " not in " " + told[0]:
+            yield V1_1 | GROUPS, call, body, place, told
+    for dialect, call, body, place, told in edition_rows():
+        if dialect == V1_2 and " refused 5 " not in " " + told[0]:
+            yield V1_2 | GROUPS, call, body, place, told
+
+
+def groups():
+    records, lines = b"", []
+    for n, (dialect, call, body, place, told) in enumerate(group_rows(), 1):
+        records += wire.record((call, bytes.fromhex(body), place), dialect)
+        lines += ["%d %s %s" % (n, call, told[0])] + told[1:]
+    return records, lines
+
+
 # ---- what a host says by itself: rows over lent bytes
 
 SUB_OPTS, MESSAGE, TOPIC, GRAFT, PRUNE, PEER_INFO = 1, 2, 3, 8, 9, 10
@@ -329,9 +397,9 @@ def rows_in(body):
 
 # Records that end a run of `inspect` with `bad`: rows that are cut, a mask above 63, more room or more rows than there may be, and one that is too short; a dialect that
 # is none, and what is too short for one.
-BAD = (*(header(1 + size, kind) + bytes([dialect]) + bytes(size) for kind, size in ((21, 0), (22, 0), (23, 2), (24, 2)) for dialect in (2, 3, 128, 255)),
-       *(header(size, kind) + b"\x01" * size for kind, size in ((21, 0), (22, 0), (23, 0), (23, 1), (23, 2), (24, 0), (24, 1), (24, 2))), header(3, 20) + bytes(3),
-       header(3, 25) + bytes(3), lent([row(GRAFT, 1, [(0, 1)])[:-1]]), lent([row(GRAFT)[:17]]), lent([], count=1), lent([bytes([GRAFT, 64]) + bytes(16)]), lent([], room=65601),
+BAD = (*(header(1 + size, kind) + bytes([dialect]) + bytes(size) for kind, size in ((21, 0), (22, 0), (23, 2), (24, 2), (25, 8)) for dialect in (4, 5, 128, 255)),
+       *(header(size, kind) + b"\x01" * size for kind, size in ((21, 0), (22, 0), (23, 0), (23, 1), (23, 2), (24, 0), (24, 1), (24, 2), (25, 0), (25, 1), (25, 8))),
+       header(3, 20) + bytes(3), header(9, 26) + bytes(9), lent([row(GRAFT, 1, [(0, 1)])[:-1]]), lent([row(GRAFT)[:17]]), lent([], count=1), lent([bytes([GRAFT, 64]) + bytes(16)]), lent([], room=65601),
        lent([row(GRAFT)] * 641), header(5, 10) + bytes(5), header(7, 11) + bytes(7), lent([row(GRAFT, 1)[:-1]], index=0))
 
 
@@ -401,7 +469,7 @@ BARE = (
 
 def training():
     """The same for a mesh whose gateways have no keys."""
-    for flags in (2, 3, 65535):
+    for flags in (4, 5, 65535):
         yield ("flagged", 1000, 4, 2, 4, flags), "set refused 40"
     for bad in ((257, 2, 4), (4, 0, 4), (4, 17, 4), (4, 2, 65)):
         yield ("flagged", 1000, *bad, 1), "set refused 40"
@@ -437,11 +505,12 @@ def training():
     # An unsigned message is not well formed where it is not allowed, and nothing is under flags that are not known.
     yield TRAINING, "set ok"
     yield ("admit", 100, 0, 0, U), "admit new"
-    for flags in (0, 2, 3, TOP):
+    for flags in (0, 2, 4, 5, TOP):
         yield ("hurt", program.FLAGS, 0, flags), "hurt ok"
         yield from calls("42")
-    yield ("hurt", program.FLAGS, 0, 1), "hurt ok"
-    yield ("serve", ROOM, REQUEST), "serve 48 %s 1 0" % U.hex()
+    for flags in (3, 1):
+        yield ("hurt", program.FLAGS, 0, flags), "hurt ok"
+        yield ("serve", ROOM, REQUEST), "serve 48 %s 1 0" % U.hex()
     # Flags that are turned on are not found out; a signed message is well formed under either.
     yield SETTINGS, "set ok"
     yield ("admit", 100, 0, 1, U), "admit refused 25"
@@ -525,6 +594,69 @@ def in_editions():
             yield ("serve_in", edition, ROOM, b"\x00", b"\x80"), "serve refused " + told
             yield ("ask_in", edition, ROOM, b"\x80"), "ask refused " + told
             yield ("admit_in", edition, 100, 0, 1, b"\x80"), "admit refused " + told
+
+
+# X with a group behind its fields.
+G = field(2, X[2:] + b"\x0b\x0c")
+SKIPPING = ("flagged", 1000, 4, 2, 4, GROUPS)
+
+
+def in_groups():
+    """The same for a node that skips groups, and for one that does not."""
+    served, want, dont = "serve 116 %s 1 0" % G.hex(), naming(2, ID), b"\x0b\x0c" + naming(5, ID)
+    for settings, mode in ((SETTINGS, 0), (SKIPPING, 1)):
+        yield settings, "set ok"
+        for body, *both in places.GROUP_ROWS:
+            told, row = both[mode], bytes.fromhex(body)
+            for edition in (V1_1, V1_2):
+                yield ("admit_in", edition, 100, 0, 1, row), "admit " + (told or "refused " + {"12020b0c": "21", "12080a01420b0a01410c": "34"}.get(body, "20 0"))
+                yield ("ask_in", edition, ROOM, row), "ask " + (told or "0")
+                yield ("serve_in", edition, ROOM, b"", row), "serve " + (told or "0 0 0")
+                yield ("serve_in", edition, 0, row, want), "serve " + (told or "0 0 0")
+    # What is kept and served has its group; its id has not.
+    yield ("admit", 100, 0, 0, G), "admit refused 27"
+    yield ("admit", 100, 0, 1, G), "admit new"
+    yield ("admit", 100, 0, 1, X), "admit dup"
+    yield ("ask", ROOM, OFFER), "ask 0"
+    yield ("advertise", ROOM, 1, b"t"), "advertise 48 " + OFFER.hex()
+    yield ("why", 1, ID, b"t"), "why listed"
+    yield ("serve", ROOM, REQUEST), served
+    yield ("serve", 115, REQUEST), "serve refused 12 116"
+    for edition in (V1_1, V1_2):
+        yield ("serve_in", edition, ROOM, dont, want), "serve 0 0 0"
+        # The body that asks is tested first.
+        yield ("serve_in", edition, ROOM, b"\x0b", b"\x0c"), "serve refused 14"
+        yield ("serve_in", edition, ROOM, b"\x0b", want), "serve refused 16"
+    yield ("admit", 100, 0, 1, field(2, U[2:] + b"\x0b\x0c")), "admit refused 25"
+    # The node is well formed only where groups are skipped.
+    for flags in (0, 1, 4, 6, TOP):
+        yield ("hurt", program.FLAGS, 0, flags), "hurt ok"
+        yield from calls("42")
+    for flags in (3, 2):
+        yield ("hurt", program.FLAGS, 0, flags), "hurt ok"
+        yield ("serve", ROOM, REQUEST), served
+    # In its place: another end, no end, and an end more.
+    for at, byte, size in ((113, 0x14, 114), (113, 0x0b, 114), (112, 0x0c, 114), (114, 0x0c, 115), (113, 0x0c, 113)):
+        yield ("hurt", program.CACHE_BYTE, at, byte), "hurt ok"
+        yield ("hurt", program.LEN, 0, size), "hurt ok"
+        yield from calls("42")
+        yield ("hurt", program.CACHE_BYTE, 112, 0x0b), "hurt ok"
+        yield ("hurt", program.CACHE_BYTE, 113, 0x0c), "hurt ok"
+        yield ("hurt", program.LEN, 0, 114), "hurt ok"
+        yield ("serve", ROOM, REQUEST), served
+    # Without the flag the message is refused, and the whole body with it.
+    yield SETTINGS, "set ok"
+    for index in (0, 1):
+        yield ("admit", 100, index, 1, X + G), "admit refused 5 3 113 at 229 in 2"
+    yield ("admit", 100, 0, 1, X), "admit new"
+    yield ("serve_in", V1_2, ROOM, dont, want), "serve refused 5 3 1 at 1"
+    yield ("hurt", program.FLAGS, 0, GROUPS), "hurt ok"
+    yield ("serve_in", V1_2, ROOM, dont, want), "serve 0 0 0"
+    # Both flags.
+    yield ("flagged", 1000, 4, 2, 4, 3), "set ok"
+    yield ("admit", 100, 0, 0, field(2, U[2:] + b"\x0b\x0c")), "admit new"
+    yield ("admit", 100, 0, 1, G), "admit new"
+    yield ("serve", ROOM, REQUEST), "serve 50 %s 1 0" % field(2, U[2:] + b"\x0b\x0c").hex()
 
 
 # Records that end a run of `states` with `bad`: an edition that is none, a room above what there is, and what is too short.
@@ -641,6 +773,7 @@ def steps():
     yield ("admit", 100, 0, 1, X), "admit dup"
     yield from training()
     yield from in_editions()
+    yield from in_groups()
 
 
 def states():

@@ -3,7 +3,8 @@
  * made on nodes that are fresh, filled and damaged, and on stores of other lengths. Each time the answer and the values are tested, that values which
  * are not named stay, and that no byte of the node and the stores changed. And rows that no record of a program can say: flags that are neither 0 nor 1, numbers
  * where nothing is to be looked at, a table that is no whole rows, and the table that decode wrote. And a node's flags, and messages that nobody signed, admitted and
- * written. And editions: the numbers that say one, and what serve is lent as its second body.
+ * written. And editions: the numbers that say one, and what serve is lent as its second body. And groups: the numbers that say whether they are skipped, in a dialect and in a
+ * node's flags.
  */
 #include "player.h"
 
@@ -154,10 +155,10 @@ static void another_ttl(void)
     state_is(4 * 129, 3 * 4096, 103, 4, 3);
 }
 
-/* That unsigned messages are allowed is not found out, where none is kept. */
+/* That unsigned messages are allowed, or groups skipped, is not found out, where no message is kept that needs it. */
 static void other_flags(void)
 {
-    settings_are(1000, 4, 2, 3, 1);
+    settings_are(1000, 4, 2, 3, node[FLAGS_AT]);
     state_is(4 * 129, 3 * 4096, 103, 4, 3);
 }
 
@@ -176,8 +177,9 @@ static void another_clock(void)
 
 static void nodes(void)
 {
-    static const uint64_t legal[][5] = {{0, 0, 1, 0, 0}, {UINT64_MAX, 256, 16, 64, 1}, {3600000, 1, 2, 3, 0}, {0, 0, 1, 0, PRADULINS_ALLOW_UNSIGNED}};
-    static const uint32_t unknown[] = {2, 3, 4, UINT32_C(1) << 31, UINT32_MAX};
+    static const uint64_t legal[][5] = {{0, 0, 1, 0, 0}, {UINT64_MAX, 256, 16, 64, 1}, {3600000, 1, 2, 3, PRADULINS_GROUPS}, {0, 0, 1, 0, PRADULINS_ALLOW_UNSIGNED},
+                                        {7, 2, 3, 4, PRADULINS_ALLOW_UNSIGNED | PRADULINS_GROUPS}};
+    static const uint32_t unknown[] = {4, 5, 6, 7, 8, UINT32_C(1) << 31, UINT32_MAX};
     memset(seen, 0xa5, sizeof seen);
     memset(cache, 0xa5, sizeof cache);
     for (size_t i = 0; i < sizeof legal / sizeof *legal; i++) {
@@ -245,8 +247,10 @@ static void nodes(void)
     with_number(FLAGS_AT - 8, UINT64_MAX, taken);
     /* Flags. */
     with_number(FLAGS_AT, PRADULINS_ALLOW_UNSIGNED, other_flags);
-    with_number(FLAGS_AT, 2, unknown_flags);
-    with_number(FLAGS_AT, 3, unknown_flags);
+    with_number(FLAGS_AT, PRADULINS_GROUPS, other_flags);
+    with_number(FLAGS_AT, PRADULINS_ALLOW_UNSIGNED | PRADULINS_GROUPS, other_flags);
+    with_number(FLAGS_AT, 4, unknown_flags);
+    with_number(FLAGS_AT, 7, unknown_flags);
     with_number(FLAGS_AT, UINT64_C(1) << 32, unknown_flags);
     with_number(FLAGS_AT, UINT64_C(1) << 63, unknown_flags);
     with_number(PRADULINS_NODE_SIZE - 8, UINT64_MAX, unknown_flags);
@@ -292,7 +296,7 @@ static void rows_are_none(size_t words, const uint8_t *bytes, size_t len)
     before_rows();
     expect(pradulins_write_rpc(rows, words, bytes, len, 0, out, sizeof out, values) == PRADULINS_MALFORMED, "rows that are none are written");
     after(0, NULL, "values beside 42");
-    expect(pradulins_write_rpc(rows, words, bytes, len, 2, out, sizeof out, values) == PRADULINS_BAD_SETTING, "flags that are not known are taken");
+    expect(pradulins_write_rpc(rows, words, bytes, len, 4, out, sizeof out, values) == PRADULINS_BAD_SETTING, "flags that are not known are taken");
     after(0, NULL, "values beside 40");
     expect(pradulins_sign_fields(rows, words, bytes, len, 0, out, sizeof out, values) == PRADULINS_MALFORMED, "rows that are none are signed");
     after(0, NULL, "values beside 42");
@@ -457,8 +461,10 @@ static void unsigned_messages_written(void)
     expect(pradulins_decode(PRADULINS_V1_1, without, UNSIGNED, rows, ROWS * PRADULINS_RECORD_WORDS, values) == PRADULINS_OK && values[0] == 2, "a body is not read");
     writes(words, without, UNSIGNED, 0, PRADULINS_SIGNATURE_LENGTH, 0, NULL);
     writes(words, without, UNSIGNED, PRADULINS_ALLOW_UNSIGNED, PRADULINS_OK, UNSIGNED, without);
-    writes(words, without, UNSIGNED, 2, PRADULINS_BAD_SETTING, 0, NULL);
-    writes(words - 1, without, UNSIGNED, 3, PRADULINS_BAD_SETTING, 0, NULL);
+    writes(words, without, UNSIGNED, PRADULINS_GROUPS, PRADULINS_SIGNATURE_LENGTH, 0, NULL);
+    writes(words, without, UNSIGNED, PRADULINS_ALLOW_UNSIGNED | PRADULINS_GROUPS, PRADULINS_OK, UNSIGNED, without);
+    writes(words, without, UNSIGNED, 4, PRADULINS_BAD_SETTING, 0, NULL);
+    writes(words - 1, without, UNSIGNED, 5, PRADULINS_BAD_SETTING, 0, NULL);
     writes(words - 1, without, UNSIGNED, PRADULINS_ALLOW_UNSIGNED, PRADULINS_MALFORMED, 0, NULL);
     /* A key alone, whatever it is; and a signature of no bytes. */
     pradulins_row_field(rows, 4, 0, 0);
@@ -474,7 +480,7 @@ static void unsigned_messages_written(void)
 
 /* ---- editions */
 
-/* Numbers of each edition: only the lowest bit counts. */
+/* Numbers of each edition: only the lowest bit counts. In a dialect the second is the mode, in which these bodies, which have no groups, are read alike. */
 static const uint32_t v1_1[] = {PRADULINS_V1_1, 2, 4, 256, UINT32_C(1) << 31, UINT32_MAX - 1}, v1_2[] = {PRADULINS_V1_2, 3, 5, 257, (UINT32_C(1) << 31) + 1, UINT32_MAX};
 enum { NUMBERS = sizeof v1_1 / sizeof *v1_1 };
 
@@ -631,6 +637,154 @@ static void second_bodies(void)
     serve_refuses(long_body, sizeof long_body, records, sizeof records, 0, PRADULINS_BODY_TOO_LARGE, 1, large);
 }
 
+/* ---- groups */
+
+/* Numbers of dialects that refuse groups, and of those that skip them: the second bit. */
+static const uint32_t refusing[] = {PRADULINS_V1_1, PRADULINS_V1_2, 4, 5, 256, (UINT32_C(1) << 31) + 1, UINT32_MAX - 3, UINT32_MAX - 2};
+static const uint32_t skipping[] = {PRADULINS_GROUPS, PRADULINS_V1_2 | PRADULINS_GROUPS, 6, 7, 258, (UINT32_C(1) << 31) + 3, UINT32_MAX - 1, UINT32_MAX};
+enum { MODES = sizeof skipping / sizeof *skipping };
+
+/* A body with groups that is skipped: so many records and bytes are read and written anew. */
+static void skips(const uint8_t *body, size_t len, uint64_t records, const uint8_t *as, size_t as_len)
+{
+    const uint64_t written[] = {as_len};
+    for (int i = 0; i < MODES; i++) {
+        before_rows();
+        expect(pradulins_decode(skipping[i], body, len, rows, sizeof rows / sizeof *rows, values) == PRADULINS_OK && values[0] == records, "groups are not skipped");
+        before_rows();
+        expect(pradulins_encode(skipping[i], body, len, out, sizeof out, values) == PRADULINS_OK, "a body with groups is not written anew");
+        after(1, written, "another number of bytes without groups");
+        expect(memcmp(out, as, as_len) == 0, "other bytes without groups");
+    }
+}
+
+/* A body that is refused under the dialects of one mode: by the number, with these values. */
+static void group_refused(const uint32_t *dialects, const uint8_t *body, size_t len, uint32_t number, int count, const uint64_t *wanted)
+{
+    for (int i = 0; i < MODES; i++) {
+        before_rows();
+        expect(pradulins_decode(dialects[i], body, len, rows, sizeof rows / sizeof *rows, values) == number, "decode answers a group otherwise");
+        after(count, wanted, "other values beside a refusal of a group");
+        before_rows();
+        expect(pradulins_encode(dialects[i], body, len, out, sizeof out, values) == number, "encode answers a group otherwise");
+        after(count, wanted, "other values beside a refusal of a group");
+        before_rows();
+        expect(pradulins_sign_bytes(dialects[i], body, len, 0, out, sizeof out, values) == number, "sign_bytes answers a group otherwise");
+        after(count, wanted, "other values beside a refusal of a group");
+        before_rows();
+        expect(pradulins_message_id(dialects[i], body, len, 0, out, sizeof out, values) == number, "message_id answers a group otherwise");
+        after(count, wanted, "other values beside a refusal of a group");
+        before_rows();
+        expect(pradulins_walk(dialects[i], body, len, 0, values) == number, "a walk answers a group otherwise");
+        after(count, wanted, "other values beside a refusal of a group");
+        for (size_t k = 0; k < sizeof out; k++)
+            expect(out[k] == 0x5e, "a byte changed beside a refusal of a group");
+    }
+}
+
+static void bodies_with_groups(void)
+{
+    static const uint8_t group[] = {0x0b, 0x10, 0x96, 1, 0x0c, 0x1a, 0}, other_end[] = {0x0b, 0x14}, number[] = {0x0b, 4}, message[] = {0x12, 2, 0x0b, 0x0c};
+    static const uint64_t type[] = {3, 1, UNTOUCHED, UNTOUCHED, 1, 0, 0, 0}, zero[] = {0, 1, UNTOUCHED, UNTOUCHED, 1, 0, 0, 0};
+    static const uint64_t steps[][4] = {{1, 3, 1, 5}, {3, 2, 6, 7}, {0}};
+    uint8_t deep[66];
+    memset(deep, 0x0b, 33);
+    memset(deep + 33, 0x0c, 33);
+
+    skips(group, sizeof group, 0, group + 5, 2);
+    skips(message, sizeof message, 1, message, sizeof message);
+    skips(deep + 1, 64, 0, out, 0);
+    group_refused(refusing, group, sizeof group, PRADULINS_WIRE_TYPE, PRADULINS_VALUES, type);
+    /* 14 to 16: no values, and no place. */
+    group_refused(skipping, deep + 33, 1, PRADULINS_END_GROUP, 0, NULL);
+    group_refused(skipping, other_end, sizeof other_end, PRADULINS_END_GROUP, 0, NULL);
+    group_refused(skipping, deep, 66, PRADULINS_GROUP_DEPTH, 0, NULL);
+    group_refused(skipping, deep, 33, PRADULINS_GROUP_DEPTH, 0, NULL);
+    group_refused(skipping, deep, 32, PRADULINS_GROUP_OPEN, 0, NULL);
+    group_refused(skipping, number, sizeof number, PRADULINS_FIELD_NUMBER, PRADULINS_VALUES, zero);
+    for (int i = 0; i < MODES; i++) {
+        size_t at = 0;
+        for (int step = 0; step < 3; step++, at = values[3]) {
+            before();
+            expect(pradulins_walk(skipping[i], group, sizeof group, at, values) == PRADULINS_OK, "a walk over a group is refused");
+            after(steps[step][0] ? 4 : 1, steps[step], "another step over a group");
+        }
+        expect(pradulins_sign_bytes(skipping[i], message, sizeof message, 0, out, sizeof out, values) == PRADULINS_OK && values[0] == 14
+               && memcmp(out, "libp2p-pubsub:", 14) == 0, "a group is signed");
+    }
+}
+
+/* A notice with a group in its message. */
+enum { GROUPED = NOTICE + 2 };
+
+static void put_grouped(uint8_t body[GROUPED], uint8_t key)
+{
+    put_notice(body, key);
+    body[1] += 2;
+    body[NOTICE] = 0x0b;
+    body[NOTICE + 1] = 0x0c;
+}
+
+static void refused_in_the_first_mode(void)
+{
+    settings_are(1000, 4, 2, 3, node[FLAGS_AT]);
+    state_is_refused(4 * 129, 3 * 4096, PRADULINS_MALFORMED);
+}
+
+static void taken_with_both_flags(void)
+{
+    settings_are(1000, 4, 2, 3, PRADULINS_ALLOW_UNSIGNED | PRADULINS_GROUPS);
+    state_is(4 * 129, 3 * 4096, 100, 1, 1);
+}
+
+/* A node that skips groups keeps and serves a message as it came; one that does not refuses it. */
+static void nodes_with_groups(void)
+{
+    static const uint64_t type[] = {3, 113, UNTOUCHED, UNTOUCHED, 115, 2, 0, 0}, top[] = {3, 1, UNTOUCHED, UNTOUCHED, 1, 0, 0, 0};
+    static const uint8_t open[] = {0x0b};
+    const uint64_t served[] = {GROUPED, 1, 0};
+    uint8_t with[GROUPED], plain[NOTICE], request[IDS_SIZE], unwanted[2 + IDS_SIZE] = {0x0b, 0x0c};
+    size_t request_len = put_ids(request, IWANT, "A"), unwanted_len = 2 + put_ids(unwanted + 2, IDONTWANT, "A");
+    put_grouped(with, 'A');
+    put_notice(plain, 'A');
+
+    expect(pradulins_start(node, 1000, 4, 2, 3, PRADULINS_GROUPS) == PRADULINS_OK, "settings are refused at start");
+    admits(with, GROUPED, true, PRADULINS_OK, 1, 4 * 129, 3 * 4096);
+    admits(plain, NOTICE, true, PRADULINS_OK, 0, 4 * 129, 3 * 4096);
+    admits(open, sizeof open, true, PRADULINS_GROUP_OPEN, 0, 4 * 129, 3 * 4096);
+    /* Its mode is its own: of an edition only the lowest bit counts. */
+    for (int i = 0; i < 2 * NUMBERS; i++) {
+        uint32_t edition = i < NUMBERS ? v1_1[i] : v1_2[i - NUMBERS];
+        before_rows();
+        expect(pradulins_serve(node, seen, 4 * 129, cache, 3 * 4096, edition, request, request_len, request, 0, out, sizeof out, values) == PRADULINS_OK,
+               "serve is refused");
+        after(3, served, "another reply with a group");
+        expect(memcmp(out, with, GROUPED) == 0, "a message is not served with its group");
+        expect(pradulins_serve(node, seen, 4 * 129, cache, 3 * 4096, edition, request, request_len, unwanted, unwanted_len, out, sizeof out, values)
+               == PRADULINS_OK && values[0] == 0, "a second body with a group is not read");
+        before();
+        expect(pradulins_ask(node, seen, 4 * 129, cache, 3 * 4096, edition, open, sizeof open, out, sizeof out, values) == PRADULINS_GROUP_OPEN,
+               "a group that is open is taken");
+        after(0, NULL, "values beside 16");
+    }
+    /* It keeps a message that it needs the flag for. */
+    with_number(FLAGS_AT, 0, refused_in_the_first_mode);
+    with_number(FLAGS_AT, PRADULINS_ALLOW_UNSIGNED, refused_in_the_first_mode);
+    with_number(FLAGS_AT, PRADULINS_ALLOW_UNSIGNED | PRADULINS_GROUPS, taken_with_both_flags);
+
+    expect(pradulins_start(node, 1000, 4, 2, 3, 0) == PRADULINS_OK, "settings are refused at start");
+    for (int i = 0; i < 2 * NUMBERS; i++) {
+        uint32_t edition = i < NUMBERS ? v1_1[i] : v1_2[i - NUMBERS];
+        before();
+        expect(pradulins_admit(node, seen, 4 * 129, cache, 3 * 4096, edition, with, GROUPED, 0, true, 100, values) == PRADULINS_WIRE_TYPE, "a group is taken");
+        after(PRADULINS_VALUES, type, "another place of a group");
+        before();
+        expect(pradulins_serve(node, seen, 4 * 129, cache, 3 * 4096, edition, request, request_len, unwanted, unwanted_len, out, sizeof out, values)
+               == PRADULINS_WIRE_TYPE, "a second body with a group is taken");
+        after(PRADULINS_VALUES, top, "another place of a group in the second body");
+    }
+}
+
 /* ---- words */
 
 static void words(void)
@@ -670,6 +824,8 @@ int test_self(void)
     unsigned_messages_written();
     bodies_in_editions();
     second_bodies();
+    bodies_with_groups();
+    nodes_with_groups();
     printf("%d checks, %d failed\n", checks, faults);
     return faults ? 1 : 0;
 }

@@ -1,6 +1,6 @@
 //! Bodies: read into records, walked field by field, written anew; the bytes to sign and the id of a message.
 
-use crate::{answered, fits, made, sys, Refusal, MAX_BODY, MAX_RECORDS, RECORD_WORDS, VALUES};
+use crate::{answered, fits, made, sys, Refusal, GROUPS, MAX_BODY, MAX_RECORDS, RECORD_WORDS, VALUES};
 
 /// The edition of gossipsub in which a body is read: that of the stream by which it came, which both sides agreed on when it was opened.
 ///
@@ -37,31 +37,66 @@ impl Edition {
     }
 }
 
-/// A body in canonical bytes: bodies that mean the same give the same bytes, and they are never longer.
+/// How a body is read by the calls on a body alone: its edition, and whether groups are skipped ([Groups](crate#groups)).
 ///
-/// Refused: what is wrong with the body (1 to 7, 10, 11).
+/// An [`Edition`] by itself is the dialect in which groups are refused, so that each of these calls takes either. What a gateway reads in is [`Gateway::dialect`](crate::Gateway::dialect).
+///
+#[cfg_attr(not(no_archive), doc = "```")]
+#[cfg_attr(no_archive, doc = "```no_run")]
+/// use pradulins::{decode, Dialect, Edition, Refusal};
+///
+/// let skipping = Dialect { edition: Edition::V1_2, skip_groups: true };
+/// assert_eq!(decode(skipping, &[0x0b, 0x0c])?.records, []);
+/// assert_eq!(decode(skipping, &[0x0b]), Err(Refusal::GroupOpen));
+/// assert_eq!(Dialect::from(Edition::V1_2), Dialect { skip_groups: false, ..skipping });
+/// # Ok::<(), Refusal>(())
+/// ```
+#[derive(Clone, Copy, Debug, PartialEq, Eq, Hash)]
+pub struct Dialect {
+    /// The edition of the stream by which the body came.
+    pub edition: Edition,
+    /// Whether groups, the wire types 3 and 4, are skipped; else they are refused ([`Refusal::WireType`]).
+    pub skip_groups: bool,
+}
+
+impl From<Edition> for Dialect {
+    fn from(edition: Edition) -> Dialect {
+        Dialect { edition, skip_groups: false }
+    }
+}
+
+impl Dialect {
+    /// The number by which the library knows it.
+    fn number(self) -> u32 {
+        self.edition.number() | if self.skip_groups { GROUPS } else { 0 }
+    }
+}
+
+/// A body in canonical bytes: bodies that mean the same give the same bytes, and they are never longer. Groups outside messages are dropped; a message keeps its bytes.
+///
+/// Refused: what is wrong with the body (1 to 7, 14 to 16, 10, 11).
 ///
 /// # Panics
 ///
-/// If the program is linked with an archive of another version. So do [`sign_bytes`], [`message_id`], [`decode`] and [`messages`].
-pub fn reencode(edition: Edition, body: &[u8]) -> Result<Vec<u8>, Refusal> {
-    let dialect = edition.number();
+/// If the program is linked with an archive of another version. So do [`sign_bytes`], [`message_id`], [`decode`], [`messages`] and [`walk`].
+pub fn reencode(dialect: impl Into<Dialect>, body: &[u8]) -> Result<Vec<u8>, Refusal> {
+    let dialect = dialect.into().number();
     made(body.len().min(MAX_BODY), |out, values| sys::encode(dialect, body, out, values))
 }
 
-/// The bytes that the signature of the message at `index` is made over.
+/// The bytes that the signature of the message at `index` is made over. They never hold groups.
 ///
-/// Refused: what is wrong with the body (1 to 7, 10, 11), [`Refusal::NoMessage`].
-pub fn sign_bytes(edition: Edition, body: &[u8], index: usize) -> Result<Vec<u8>, Refusal> {
-    let dialect = edition.number();
+/// Refused: what is wrong with the body (1 to 7, 14 to 16, 10, 11), [`Refusal::NoMessage`].
+pub fn sign_bytes(dialect: impl Into<Dialect>, body: &[u8], index: usize) -> Result<Vec<u8>, Refusal> {
+    let dialect = dialect.into().number();
     made(body.len().min(MAX_BODY) + 14, |out, values| sys::sign_bytes(dialect, body, index, out, values))
 }
 
 /// The id of the message at `index`: its from and its seqno.
 ///
-/// Refused: what is wrong with the body (1 to 7, 10, 11), [`Refusal::NoMessage`], and 21, 22 and 23.
-pub fn message_id(edition: Edition, body: &[u8], index: usize) -> Result<Vec<u8>, Refusal> {
-    let dialect = edition.number();
+/// Refused: what is wrong with the body (1 to 7, 14 to 16, 10, 11), [`Refusal::NoMessage`], and 21, 22 and 23.
+pub fn message_id(dialect: impl Into<Dialect>, body: &[u8], index: usize) -> Result<Vec<u8>, Refusal> {
+    let dialect = dialect.into().number();
     made(128, |out, values| sys::message_id(dialect, body, index, out, values))
 }
 
@@ -86,7 +121,7 @@ pub enum Record<'a> {
     },
     /// A message; its topics follow.
     Message {
-        /// All its bytes.
+        /// All its bytes, groups with them.
         raw: &'a [u8],
         /// Who published it: a peer id, if it is to be admitted.
         from: Option<&'a [u8]>,
@@ -168,9 +203,9 @@ fn record_of<'a>(body: &'a [u8], row: &[u64]) -> Record<'a> {
 
 /// Reads a body.
 ///
-/// Refused: what is wrong with it (1 to 7, 10, 11).
-pub fn decode(edition: Edition, body: &[u8]) -> Result<Decoded<'_>, Refusal> {
-    let dialect = edition.number();
+/// Refused: what is wrong with it (1 to 7, 14 to 16, 10, 11).
+pub fn decode(dialect: impl Into<Dialect>, body: &[u8]) -> Result<Decoded<'_>, Refusal> {
+    let dialect = dialect.into().number();
     // A record takes at least a byte of tag and one of length.
     let mut table = vec![0; (body.len() / 2).min(MAX_RECORDS) * RECORD_WORDS];
     let mut values = [0; VALUES];
@@ -184,7 +219,7 @@ pub fn decode(edition: Edition, body: &[u8]) -> Result<Decoded<'_>, Refusal> {
 pub struct Message<'a> {
     /// Its index among the messages of the body, from 0: that of [`Gateway::admit`](crate::Gateway::admit), [`sign_bytes`] and [`message_id`].
     pub index: usize,
-    /// All its bytes.
+    /// All its bytes, groups with them.
     pub raw: &'a [u8],
     /// Who published it: a peer id, if it is to be admitted.
     pub from: Option<&'a [u8]>,
@@ -217,9 +252,9 @@ fn messages_of<'a>(records: &[Record<'a>]) -> Vec<Message<'a>> {
 
 /// The messages of a body, in one reading of it. Whether they would be admitted is not looked at.
 ///
-/// Refused: what is wrong with the body (1 to 7, 10, 11).
-pub fn messages(edition: Edition, body: &[u8]) -> Result<Vec<Message<'_>>, Refusal> {
-    Ok(messages_of(&decode(edition, body)?.records))
+/// Refused: what is wrong with the body (1 to 7, 14 to 16, 10, 11).
+pub fn messages(dialect: impl Into<Dialect>, body: &[u8]) -> Result<Vec<Message<'_>>, Refusal> {
+    Ok(messages_of(&decode(dialect, body)?.records))
 }
 
 /// A top-level field of a body.
@@ -227,9 +262,9 @@ pub fn messages(edition: Edition, body: &[u8]) -> Result<Vec<Message<'_>>, Refus
 pub struct Field<'a> {
     /// The field's number.
     pub number: u64,
-    /// Its wire type: 0, 1, 2 or 5.
+    /// Its wire type: 0, 1, 2 or 5, and where groups are skipped, 3.
     pub wire_type: u8,
-    /// What follows its tag: a varint, 8 bytes, a length and as many bytes, or 4 bytes.
+    /// What follows its tag: a varint, 8 bytes, a length and as many bytes, 4 bytes, or the fields of a group with its end tag.
     pub bytes: &'a [u8],
     /// Where it ends in the body, and the next begins.
     pub end: usize,
@@ -238,21 +273,22 @@ pub struct Field<'a> {
 /// The top-level fields of a body, one after the other; it ends after the first refusal. Made by [`walk`].
 #[derive(Clone, Debug)]
 pub struct Walk<'a> {
+    dialect: u32,
     body: &'a [u8],
     at: usize,
     done: bool,
 }
 
-/// Walks over the top-level fields of a body. What a field holds is not looked at, so the edition does not matter.
+/// Walks over the top-level fields of a body. What a field holds is not looked at, so the edition does not matter; a group that is skipped is one field.
 ///
-/// Refused: what is wrong with a field (1 to 6), or a body above 65,536 bytes. No field encloses the [`Place`](crate::Place) of such a refusal.
-pub fn walk(body: &[u8]) -> Walk<'_> {
-    walk_from(body, 0)
+/// Refused: what is wrong with a field (1 to 6, 14 to 16), or a body above 65,536 bytes. No field encloses the [`Place`](crate::Place) of such a refusal.
+pub fn walk(dialect: impl Into<Dialect>, body: &[u8]) -> Walk<'_> {
+    walk_from(dialect, body, 0)
 }
 
 /// The same from a place on, which should be the end of a field. A place past the end of the body is its end.
-pub fn walk_from(body: &[u8], at: usize) -> Walk<'_> {
-    Walk { body, at, done: false }
+pub fn walk_from(dialect: impl Into<Dialect>, body: &[u8], at: usize) -> Walk<'_> {
+    Walk { dialect: dialect.into().number(), body, at, done: false }
 }
 
 impl<'a> Iterator for Walk<'a> {
@@ -263,7 +299,7 @@ impl<'a> Iterator for Walk<'a> {
             return None;
         }
         let mut values = [0; VALUES];
-        if let Err(refusal) = answered(sys::walk(self.body, self.at, &mut values), &values) {
+        if let Err(refusal) = answered(sys::walk(self.dialect, self.body, self.at, &mut values), &values) {
             self.done = true;
             return Some(Err(refusal));
         }

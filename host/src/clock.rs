@@ -17,7 +17,7 @@ use std::time::{Duration, Instant, SystemTime, UNIX_EPOCH};
 #[cfg_attr(not(no_archive), doc = "```")]
 #[cfg_attr(no_archive, doc = "```no_run")]
 /// # use pradulins::{Clock, Gateway, Settings};
-/// let mut gateway = Gateway::start(Settings { ttl: 3_600_000, max_seen: 256, history_len: 4, max_messages: 64, allow_unsigned: false })?;
+/// let mut gateway = Gateway::start(Settings { ttl: 3_600_000, max_seen: 256, history_len: 4, max_messages: 64, allow_unsigned: false, skip_groups: false })?;
 /// let clock = Clock::after(&gateway);
 /// gateway.heartbeat(clock.now())?;
 /// gateway.heartbeat(clock.now())?;
@@ -258,7 +258,8 @@ mod tests {
         use crate::{body_of, Admitted, Edition, Refusal, Settings};
 
         /// Half an hour: less than the wall clock steps by.
-        const SETTINGS: Settings = Settings { ttl: HOUR / 2, max_seen: 256, history_len: 4, max_messages: 4, allow_unsigned: false };
+        const SETTINGS: Settings =
+            Settings { ttl: HOUR / 2, max_seen: 256, history_len: 4, max_messages: 4, allow_unsigned: false, skip_groups: false };
         const MORNING: u64 = 1_800_000_000_000;
 
         /// A body with one message.

@@ -26,19 +26,19 @@ pub fn write_rpc_into(records: &[Record<'_>], out: &mut [u8]) -> Result<usize, R
     written_into(records, false, out)
 }
 
-// An archive of an earlier version takes no flags: it is not to be called.
+// An archive of an earlier version takes no flags: it is not to be called. What is written has no groups, so that flag is off.
 
 fn written(records: &[Record<'_>], allow_unsigned: bool) -> Result<Vec<u8>, Refusal> {
     fits(sys::format(), sys::version());
     let rows = Rows::of(records);
-    made(MAX_BODY, |out, values| sys::write_rpc(&rows.table, &rows.bytes, flags(allow_unsigned), out, values))
+    made(MAX_BODY, |out, values| sys::write_rpc(&rows.table, &rows.bytes, flags(allow_unsigned, false), out, values))
 }
 
 fn written_into(records: &[Record<'_>], allow_unsigned: bool, out: &mut [u8]) -> Result<usize, Refusal> {
     fits(sys::format(), sys::version());
     let rows = Rows::of(records);
     let mut values = [0; VALUES];
-    answered(sys::write_rpc(&rows.table, &rows.bytes, flags(allow_unsigned), out, &mut values), &values)?;
+    answered(sys::write_rpc(&rows.table, &rows.bytes, flags(allow_unsigned, false), out, &mut values), &values)?;
     Ok(values[0] as usize)
 }
 

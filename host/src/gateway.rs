@@ -1,6 +1,8 @@
 //! The node with its two stores.
 
-use crate::{answered, fits, flags, made, sys, Edition, Refusal, ALLOW_UNSIGNED, CACHE_PLACE, MAX_BODY, NODE_SIZE, SEEN_ROW, VALUES};
+use crate::{
+    answered, fits, flags, made, sys, Dialect, Edition, Refusal, ALLOW_UNSIGNED, CACHE_PLACE, GROUPS, MAX_BODY, NODE_SIZE, SEEN_ROW, VALUES,
+};
 
 /// What a gateway keeps, and how long.
 #[derive(Clone, Copy, Debug, PartialEq, Eq, Hash)]
@@ -16,6 +18,9 @@ pub struct Settings {
     /// Whether messages that nobody signed, with neither signature nor key, are taken: `false` but in a training mesh ([Unsigned
     /// messages](crate#unsigned-messages)).
     pub allow_unsigned: bool,
+    /// Whether groups, the wire types 3 and 4, are skipped in all bodies that it reads; `false` refuses them, as the Rust does. All gateways of a mesh are to
+    /// be set alike ([Groups](crate#groups)).
+    pub skip_groups: bool,
 }
 
 /// What an admitted message is.
@@ -107,15 +112,15 @@ impl Gateway {
     pub fn start(settings: Settings) -> Result<Gateway, Refusal> {
         fits(sys::format(), sys::version());
         let mut node = Box::new([0; NODE_SIZE]);
-        let Settings { ttl, max_seen, history_len, max_messages, allow_unsigned } = settings;
-        answered(sys::start(&mut node, ttl, max_seen, history_len, max_messages, flags(allow_unsigned)), &[0; VALUES])?;
+        let Settings { ttl, max_seen, history_len, max_messages, allow_unsigned, skip_groups } = settings;
+        answered(sys::start(&mut node, ttl, max_seen, history_len, max_messages, flags(allow_unsigned, skip_groups)), &[0; VALUES])?;
         Ok(Gateway { node, seen: vec![0; max_seen * SEEN_ROW], cache: vec![0; max_messages * CACHE_PLACE] })
     }
 
     /// Admits the message at `index` of `body` (from 0), which came by a stream of this edition. `verified` is the host's word that its signature was verified, and of a sender that is a SHA-256,
     /// that the message's key maps to it ([Senders](crate#senders)); `now` is the host's clock ([`Clock::now`](crate::Clock::now)).
     ///
-    /// Refused: what is wrong with the body (1 to 7, 10, 11), the index (20) or the message (21, 22, 34, 23 to 26, 35, 36, 27 to 30), in this order, and then
+    /// Refused: what is wrong with the body (10, 1 to 7 and 14 to 16, 11), the index (20) or the message (21, 22, 34, 23 to 26, 35, 36, 27 to 30), in this order, and then
     /// [`Refusal::ClockBack`]. With [`Settings::allow_unsigned`] a message with neither signature nor key meets none of 25, 26, 35, 36 and 27, whatever `verified` is.
     pub fn admit(&mut self, edition: Edition, body: &[u8], index: usize, verified: bool, now: u64) -> Result<Admitted, Refusal> {
         let mut values = [0; VALUES];
@@ -167,7 +172,7 @@ impl Gateway {
 
     /// A body that asks for what `body`, which came by a stream of this edition, offers and was not seen; empty where that is nothing.
     ///
-    /// Refused: what is wrong with the body (1 to 7, 10, 11).
+    /// Refused: what is wrong with the body (10, 1 to 7 and 14 to 16, 11).
     pub fn ask(&self, edition: Edition, body: &[u8]) -> Result<Vec<u8>, Refusal> {
         made(MAX_BODY, |out, values| sys::ask(&self.node, &self.seen, &self.cache, edition.number(), body, out, values))
     }
@@ -183,7 +188,7 @@ impl Gateway {
 
     /// The messages that `body`, which came by a stream of this edition, asks for and are kept, as many as fit a body.
     ///
-    /// Refused: what is wrong with the body (1 to 7, 10, 11).
+    /// Refused: what is wrong with the body (10, 1 to 7 and 14 to 16, 11).
     pub fn serve(&self, edition: Edition, body: &[u8]) -> Result<Reply, Refusal> {
         self.serve_without(edition, body, &[])
     }
@@ -201,7 +206,7 @@ impl Gateway {
     /// `unwanted` is read in [`Edition::V1_2`] whatever the edition of `body`, and what else stands in it changes nothing. IDONTWANTs in `body` itself do not
     /// count. An empty `unwanted` is none.
     ///
-    /// Refused: what is wrong with `body` (1 to 7, 10, 11), then the same of `unwanted`. A [`Place`](crate::Place) is one in the body that is refused; which of the
+    /// Refused: what is wrong with `body` (10, 1 to 7 and 14 to 16, 11), then the same of `unwanted`. A [`Place`](crate::Place) is one in the body that is refused; which of the
     /// two that is, [`decode`](crate::decode) tells.
     pub fn serve_without(&self, edition: Edition, body: &[u8], unwanted: &[u8]) -> Result<Reply, Refusal> {
         let (mut messages, mut left) = (0, 0);
@@ -222,6 +227,12 @@ impl Gateway {
         Ok(Served { bytes: values[0] as usize, messages: values[1] as usize, left: values[2] as usize })
     }
 
+    /// How it reads a body that came by a stream of this edition: for the calls on a body alone, such as [`messages`](crate::messages) and
+    /// [`sign_bytes`](crate::sign_bytes), before it is admitted.
+    pub fn dialect(&self, edition: Edition) -> Dialect {
+        Dialect { edition, skip_groups: self.settings().skip_groups }
+    }
+
     /// The settings that it was started with.
     pub fn settings(&self) -> Settings {
         Settings {
@@ -230,6 +241,7 @@ impl Gateway {
             history_len: self.number(HISTORY_LEN) as usize,
             max_messages: self.number(MAX_MESSAGES) as usize,
             allow_unsigned: self.number(FLAGS) & u64::from(ALLOW_UNSIGNED) != 0,
+            skip_groups: self.number(FLAGS) & u64::from(GROUPS) != 0,
         }
     }
 
@@ -303,8 +315,9 @@ mod tests {
     fn agree(gateway: &Gateway) {
         let mut values = [u64::MAX; VALUES];
         assert_eq!(sys::settings(&gateway.node, &mut values), 0);
-        let Settings { ttl, max_seen, history_len, max_messages, allow_unsigned } = gateway.settings();
-        assert_eq!(values[..5], [ttl, max_seen as u64, history_len as u64, max_messages as u64, allow_unsigned as u64]);
+        let Settings { ttl, max_seen, history_len, max_messages, allow_unsigned, skip_groups } = gateway.settings();
+        let flags = allow_unsigned as u64 + 2 * skip_groups as u64;
+        assert_eq!(values[..5], [ttl, max_seen as u64, history_len as u64, max_messages as u64, flags]);
         assert_eq!(values[5..], [u64::MAX; VALUES - 5]);
         values = [u64::MAX; VALUES];
         assert_eq!(sys::state(&gateway.node, &gateway.seen, &gateway.cache, &mut values), 0);
@@ -314,12 +327,15 @@ mod tests {
 
     #[test]
     fn what_a_gateway_says_of_itself() {
-        for (ttl, max_seen, history_len, max_messages, allow_unsigned) in
-            [(0, 0, 1, 0, true), (1000, 4, 2, 3, false), (u64::MAX, 256, 16, 64, true), (3_600_000, 1, 16, 64, false)]
+        for (ttl, max_seen, history_len, max_messages, allow_unsigned, skip_groups) in
+            [(0, 0, 1, 0, true, false), (1000, 4, 2, 3, false, true), (u64::MAX, 256, 16, 64, true, true), (3_600_000, 1, 16, 64, false, false)]
         {
-            let settings = Settings { ttl, max_seen, history_len, max_messages, allow_unsigned };
+            let settings = Settings { ttl, max_seen, history_len, max_messages, allow_unsigned, skip_groups };
             let mut gateway = Gateway::start(settings).unwrap();
             agree(&gateway);
+            for edition in [Edition::V1_1, Edition::V1_2] {
+                assert_eq!(gateway.dialect(edition), Dialect { edition, skip_groups });
+            }
             assert_eq!((gateway.settings(), gateway.clock(), gateway.seen(), gateway.messages()), (settings, 0, 0, 0));
             for from in 1..=7 {
                 let now = 1 << (9 * u64::from(from) - 1);
@@ -335,14 +351,18 @@ mod tests {
 
     #[test]
     fn bytes_that_nothing_tested() {
-        let mut gateway = Gateway::start(Settings { ttl: 1, max_seen: 1, history_len: 1, max_messages: 1, allow_unsigned: false }).unwrap();
+        let mut gateway =
+            Gateway::start(Settings { ttl: 1, max_seen: 1, history_len: 1, max_messages: 1, allow_unsigned: false, skip_groups: false }).unwrap();
         let (node, seen, cache) = gateway.parts();
         assert!(Gateway::from_parts(Box::new(*node), seen.to_vec(), cache.to_vec()) == gateway);
-        gateway.node[FLAGS] = 1;
-        assert_eq!((gateway.settings().allow_unsigned, gateway.heartbeat(1)), (true, Ok(())));
-        for flag in [2, 3] {
-            gateway.node[FLAGS] = flag;
-            assert_eq!((gateway.settings().allow_unsigned, gateway.heartbeat(1)), (flag == 3, Err(Refusal::Malformed)));
+        let told = |gateway: &Gateway| (gateway.settings().allow_unsigned, gateway.settings().skip_groups);
+        for (flags, known) in [(1, (true, false)), (2, (false, true)), (3, (true, true))] {
+            gateway.node[FLAGS] = flags;
+            assert_eq!((told(&gateway), gateway.heartbeat(1)), (known, Ok(())));
+        }
+        for (flags, known) in [(4, (false, false)), (7, (true, true)), (0x82, (false, true))] {
+            gateway.node[FLAGS] = flags;
+            assert_eq!((told(&gateway), gateway.heartbeat(1)), (known, Err(Refusal::Malformed)));
         }
         (gateway.node[FLAGS], gateway.node[NODE_SIZE - 1]) = (0, 1);
         assert_eq!(gateway.heartbeat(1), Err(Refusal::Malformed));

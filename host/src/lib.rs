@@ -3,7 +3,8 @@
 //! nothing, and its users write no `unsafe`.
 //!
 //! A host admits each message of a body that came in. Here `verify` and `file` are its own: the check of a signature, and what it does with a notice
-//! that is new. The [`Edition`] is that of the stream by which the body came; see "Editions".
+//! that is new. The [`Edition`] is that of the stream by which the body came; see "Editions". Calls on a body alone take a [`Dialect`], which is an edition and
+//! whether groups are skipped; see "Groups".
 //!
 #![cfg_attr(not(no_archive), doc = "```")]
 #![cfg_attr(no_archive, doc = "```no_run")]
@@ -15,15 +16,16 @@
 //! # let body = [&[0x12, 0x70, 0x0a, 0x26][..], &sender, &[0x1a, 1, 1, 0x22, 1, b't', 0x2a, 0x40], &[0; 64]].concat();
 //! # let path = std::env::temp_dir().join(format!("pradulins-page-{}", std::process::id()));
 //!
-//! let settings = Settings { ttl: 3_600_000, max_seen: 256, history_len: 4, max_messages: 64, allow_unsigned: false };
+//! let settings = Settings { ttl: 3_600_000, max_seen: 256, history_len: 4, max_messages: 64, allow_unsigned: false, skip_groups: false };
 //! let mut gateway = match Gateway::load_from(&path) {
 //!     Err(LoadError::Read(why)) if why.kind() == ErrorKind::NotFound => Gateway::start(settings)?, // the first start of all
 //!     loaded => loaded?,
 //! };
 //! let clock = Clock::after(&gateway);
 //! let edition = Edition::V1_1;
-//! for message in messages(edition, &body)? {
-//!     let verified = verify(&message, &sign_bytes(edition, &body, message.index)?);
+//! let dialect = gateway.dialect(edition);
+//! for message in messages(dialect, &body)? {
+//!     let verified = verify(&message, &sign_bytes(dialect, &body, message.index)?);
 //!     match gateway.admit(edition, &body, message.index, verified, clock.now()) {
 //!         Ok(Admitted::New) => file(&message),
 //!         Ok(Admitted::Duplicate) => {}
@@ -43,7 +45,7 @@
 #![cfg_attr(not(no_archive), doc = "```")]
 #![cfg_attr(no_archive, doc = "```no_run")]
 //! # use pradulins::{Admitted, Edition, Gateway, Settings};
-//! # let settings = Settings { ttl: 3_600_000, max_seen: 256, history_len: 4, max_messages: 64, allow_unsigned: false };
+//! # let settings = Settings { ttl: 3_600_000, max_seen: 256, history_len: 4, max_messages: 64, allow_unsigned: false, skip_groups: false };
 //! # let edition = Edition::V1_2;
 //! # let (mut first, mut second) = (Gateway::start(settings)?, Gateway::start(settings)?);
 //! # let sender = [&[0, 0x24, 8, 1, 0x12, 0x20][..], &[b'A'; 32]].concat();
@@ -67,7 +69,7 @@
 //! # use pradulins::{Admitted, Edition, Gateway, Settings};
 //! # fn sign(_bytes: &[u8]) -> [u8; 64] { [0; 64] }
 //! # let sender = [&[0, 0x24, 8, 1, 0x12, 0x20][..], &[b'A'; 32]].concat();
-//! # let mut neighbour = Gateway::start(Settings { ttl: 3_600_000, max_seen: 256, history_len: 4, max_messages: 64, allow_unsigned: false })?;
+//! # let mut neighbour = Gateway::start(Settings { ttl: 3_600_000, max_seen: 256, history_len: 4, max_messages: 64, allow_unsigned: false, skip_groups: false })?;
 //!
 //! let draft = Draft { from: &sender, seqno: &17u64.to_be_bytes(), data: Some(b"study 17"), topics: &["ct"], key: None };
 //! let signature = sign(&draft.sign_fields()?);
@@ -90,7 +92,7 @@
 #![cfg_attr(not(no_archive), doc = "```")]
 #![cfg_attr(no_archive, doc = "```no_run")]
 //! # use pradulins::{message_id, Edition, Gateway, Settings};
-//! # let mut gateway = Gateway::start(Settings { ttl: 3_600_000, max_seen: 256, history_len: 4, max_messages: 64, allow_unsigned: false })?;
+//! # let mut gateway = Gateway::start(Settings { ttl: 3_600_000, max_seen: 256, history_len: 4, max_messages: 64, allow_unsigned: false, skip_groups: false })?;
 //! # let sender = [&[0, 0x24, 8, 1, 0x12, 0x20][..], &[b'A'; 32]].concat();
 //! # let body = [&[0x12, 0x70, 0x0a, 0x26][..], &sender, &[0x1a, 1, 1, 0x22, 1, b't', 0x2a, 0x40], &[0; 64]].concat();
 //! # gateway.admit(Edition::V1_2, &body, 0, true, 100)?;
@@ -102,6 +104,31 @@
 //! # assert_eq!((reply.body.len(), reply.messages, reply.left), (0, 0, 0));
 //! # Ok::<(), pradulins::Refusal>(())
 //! ```
+//!
+//! # Groups
+//!
+//! A group is an old form of a field in Protocol Buffers: a start tag (wire type 3), fields, and an end tag (wire type 4) of the same number. The Rust that was ported
+//! refuses both types ([`Refusal::WireType`]), and so does this library in its first mode. For neighbours whose software sends groups as fields that nobody knows there
+//! is a second one, in which groups are skipped, up to 32 deep: [`Settings::skip_groups`] of a gateway, fixed at start, and `skip_groups` of a [`Dialect`] for calls on a body alone.
+//! [`Gateway::dialect`] is the dialect of a gateway. New in that mode are [`Refusal::EndGroup`], [`Refusal::GroupDepth`] and [`Refusal::GroupOpen`].
+//!
+#![cfg_attr(not(no_archive), doc = "```")]
+#![cfg_attr(no_archive, doc = "```no_run")]
+//! # use pradulins::{reencode, sign_bytes, Dialect, Edition, Refusal};
+//! let skipping = Dialect { edition: Edition::V1_1, skip_groups: true };
+//! // A group with the number 1, in it a field of its own; behind it an empty control.
+//! let body = [0x0b, 0x10, 0x96, 1, 0x0c, 0x1a, 0];
+//! assert_eq!(reencode(Edition::V1_1, &body).unwrap_err().number(), 5);
+//! assert_eq!(reencode(skipping, &body)?, [0x1a, 0]);
+//! // A message keeps its bytes; what is signed has no groups.
+//! let body = [0x12, 8, 0x0a, 1, 0x42, 0x0b, 0x0a, 1, 0x41, 0x0c];
+//! assert_eq!(reencode(skipping, &body)?, body);
+//! assert_eq!(sign_bytes(skipping, &body, 0)?, b"libp2p-pubsub:\x0a\x01\x42");
+//! # Ok::<(), Refusal>(())
+//! ```
+//!
+//! What the first mode accepts the second accepts, and it means the same. But a gateway in the second mode passes messages on that neighbours in the first mode refuse:
+//! with one such message in it they refuse a whole reply. All gateways of a mesh are to be set alike.
 //!
 //! # What the host does
 //!
@@ -147,7 +174,7 @@
 #![cfg_attr(no_archive, doc = "```no_run")]
 //! # use pradulins::{Admitted, Draft, Edition, Gateway, Rpc, Settings};
 //! # let sender = [&[0, 0x24, 8, 1, 0x12, 0x20][..], &[b'A'; 32]].concat();
-//! let settings = Settings { ttl: 3_600_000, max_seen: 256, history_len: 4, max_messages: 64, allow_unsigned: true };
+//! let settings = Settings { ttl: 3_600_000, max_seen: 256, history_len: 4, max_messages: 64, allow_unsigned: true, skip_groups: false };
 //! let mut gateway = Gateway::start(settings)?;
 //! let draft = Draft { from: &sender, seqno: &[1], data: Some(b"a study to learn with"), topics: &["ct"], key: None };
 //! let body = Rpc::new().allow_unsigned(settings.allow_unsigned).publish_unsigned(&draft).write()?;
@@ -176,7 +203,7 @@
 #![cfg_attr(not(no_archive), doc = "```")]
 #![cfg_attr(no_archive, doc = "```no_run")]
 //! # use pradulins::{Gateway, Refusal, Settings};
-//! # let mut gateway = Gateway::start(Settings { ttl: 1000, max_seen: 4, history_len: 2, max_messages: 4, allow_unsigned: false })?;
+//! # let mut gateway = Gateway::start(Settings { ttl: 1000, max_seen: 4, history_len: 2, max_messages: 4, allow_unsigned: false, skip_groups: false })?;
 //! gateway.heartbeat(100)?;
 //! let refusal = gateway.heartbeat(99).unwrap_err();
 //! assert_eq!(refusal, Refusal::ClockBack { clock: 100 });
@@ -184,7 +211,8 @@
 //! # Ok::<(), Refusal>(())
 //! ```
 //!
-//! What is wrong with the bytes of a body (1 to 7) has a [`Place`]: how many bytes after the start of the whole body it stands, and which fields enclose it.
+//! What is wrong with the bytes of a body (1 to 7) has a [`Place`]: how many bytes after the start of the whole body it stands, and which fields enclose it. What is
+//! wrong with its groups (14 to 16) has none.
 //!
 #![cfg_attr(not(no_archive), doc = "```")]
 #![cfg_attr(no_archive, doc = "```no_run")]
@@ -203,8 +231,8 @@
 //! there is none, or only one from before version 0.6.0, or for another machine, the crate can be checked and those of its tests run that call nothing of it;
 //! `tools/host` of the repository runs all tests and the example on Arm, too. An archive of another [`FORMAT`], or of a version with other values or other
 //! refusals, is found when a gateway is started or loaded, before a body is read or an RPC is written, and when a call is refused, which then panics. A crate from
-//! before 0.8.0 does not find it before a body is read, one from before 0.7.0 not before an RPC is written, and one from before 0.4.0 not at all: do not link these
-//! with an archive of this version.
+//! before 0.9.0 does not find it before a walk, one from before 0.8.0 not before a body is read, one from before 0.7.0 not before an RPC is written, and one from before
+//! 0.4.0 not at all: do not link these with an archive of this version.
 
 mod body;
 mod clock;
@@ -215,7 +243,7 @@ mod refusal;
 mod saved;
 mod sys;
 
-pub use body::{decode, message_id, messages, reencode, sign_bytes, walk, walk_from, Decoded, Edition, Field, Message, Record, Walk};
+pub use body::{decode, message_id, messages, reencode, sign_bytes, walk, walk_from, Decoded, Dialect, Edition, Field, Message, Record, Walk};
 pub use clock::Clock;
 pub use compose::{sign_fields, sign_fields_into, write_rpc, write_rpc_into, Draft, Rpc};
 pub use gateway::{Admitted, Gateway, Offer, Reply, Served, Settings};
@@ -250,7 +278,7 @@ pub const MAX_BODY: usize = 65536;
 pub const MAX_RECORDS: usize = 512;
 
 /// The archives that this crate can be linked with, by their version without its last number: in others a call hands out other values or other refusals.
-const ARCHIVES: u32 = 8;
+const ARCHIVES: u32 = 9;
 
 /// Holds the archive that the program is linked with to this crate: another format, or a version with other answers, is a fault of the build.
 fn fits(format: u32, version: u32) {
@@ -276,13 +304,12 @@ const VALUES: usize = 8;
 /// Among the flags of a gateway: messages that nobody signed are taken.
 const ALLOW_UNSIGNED: u32 = 1;
 
+/// Among the flags of a gateway, and in the number of a dialect: groups are skipped.
+const GROUPS: u32 = 2;
+
 /// The flags as the library has them, one number.
-fn flags(allow_unsigned: bool) -> u32 {
-    if allow_unsigned {
-        ALLOW_UNSIGNED
-    } else {
-        0
-    }
+fn flags(allow_unsigned: bool, skip_groups: bool) -> u32 {
+    u32::from(allow_unsigned) * ALLOW_UNSIGNED + u32::from(skip_groups) * GROUPS
 }
 
 /// What a call did, or why it was refused.
@@ -319,21 +346,26 @@ mod tests {
     #[test]
     #[should_panic(expected = "is for format 4, and this crate for format 3: link the archive of the crate's own version")]
     fn an_archive_of_another_format() {
-        fits(FORMAT, 800);
-        fits(FORMAT, 899);
-        fits(FORMAT + 1, 800);
-    }
-
-    #[test]
-    #[should_panic(expected = "is of version 0.7.0, and this crate of 0.8.")]
-    fn an_archive_of_an_earlier_version() {
-        fits(FORMAT, 700);
-    }
-
-    #[test]
-    #[should_panic(expected = "is of version 0.9.0, and this crate of 0.8.")]
-    fn an_archive_of_a_later_version() {
         fits(FORMAT, 900);
+        fits(FORMAT, 999);
+        fits(FORMAT + 1, 900);
+    }
+
+    #[test]
+    #[should_panic(expected = "is of version 0.8.0, and this crate of 0.9.")]
+    fn an_archive_of_an_earlier_version() {
+        fits(FORMAT, 800);
+    }
+
+    #[test]
+    #[should_panic(expected = "is of version 0.10.0, and this crate of 0.9.")]
+    fn an_archive_of_a_later_version() {
+        fits(FORMAT, 1000);
+    }
+
+    #[test]
+    fn a_bit_for_each_flag() {
+        assert_eq!([flags(false, false), flags(true, false), flags(false, true), flags(true, true)], [0, 1, 2, 3]);
     }
 
     #[cfg(not(no_archive))]
@@ -349,6 +381,7 @@ mod tests {
         assert!(header.contains(&format!("#define PRADULINS_VALUES {VALUES}\n")));
         assert!(header.contains(&format!("#define PRADULINS_NODE_SIZE {NODE_SIZE}\n")));
         assert!(header.contains(&format!("#define PRADULINS_ALLOW_UNSIGNED {ALLOW_UNSIGNED}\n")));
+        assert!(header.contains(&format!("#define PRADULINS_GROUPS {GROUPS}\n")));
         for (name, edition) in [("1_1", Edition::V1_1), ("1_2", Edition::V1_2)] {
             assert!(header.contains(&format!("#define PRADULINS_V{name} {}\n", edition.number())));
         }

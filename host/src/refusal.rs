@@ -9,7 +9,8 @@ const PLACE: usize = 4;
 
 /// Why a call was refused. A refused call has changed nothing.
 ///
-/// What is wrong with the bytes of a body, 1 to 7, has a [`Place`] in the whole body; [`Refusal::place`] gives it, too, and there is none beside the others.
+/// What is wrong with the bytes of a body, 1 to 7, has a [`Place`] in the whole body; [`Refusal::place`] gives it, too, and there is none beside the others, also not
+/// beside 14 to 16.
 /// An `offset` is counted from the start of the innermost field that encloses it. [`Refusal::number`] and [`Refusal::values`] give the refusal as the
 /// library's other programs print it, before its place.
 #[derive(Clone, Copy, Debug, PartialEq, Eq, Hash)]
@@ -40,7 +41,7 @@ pub enum Refusal {
         /// Where the field's bytes were to begin.
         place: Place,
     },
-    /// 5: a wire type other than 0, 1, 2 and 5.
+    /// 5: a wire type other than 0, 1, 2 and 5, or where groups are skipped, 6 or 7.
     WireType {
         /// The wire type.
         wire_type: u64,
@@ -58,6 +59,12 @@ pub enum Refusal {
         /// The tag's first byte.
         place: Place,
     },
+    /// 14, where groups are skipped: an end tag with no open group, or of another number than the group that was opened last.
+    EndGroup,
+    /// 15, where groups are skipped: groups more than 32 deep.
+    GroupDepth,
+    /// 16, where groups are skipped: the body, or the submessage in which a group began, ends inside the group.
+    GroupOpen,
     /// 7: a topic is not UTF-8.
     Utf8 {
         /// The first byte of the topic's length.
@@ -147,7 +154,8 @@ pub enum Refusal {
 
 impl Refusal {
     /// All numbers of refusals that a call of this crate can meet.
-    pub const NUMBERS: [u32; 29] = [1, 2, 3, 4, 5, 6, 7, 10, 11, 12, 13, 20, 21, 22, 23, 24, 25, 26, 27, 28, 29, 30, 31, 34, 35, 36, 40, 41, 42];
+    pub const NUMBERS: [u32; 32] =
+        [1, 2, 3, 4, 5, 6, 7, 10, 11, 12, 13, 14, 15, 16, 20, 21, 22, 23, 24, 25, 26, 27, 28, 29, 30, 31, 34, 35, 36, 40, 41, 42];
 
     /// The refusal that a call answered. A number that no contract allows is a fault of the archive.
     pub(crate) fn from_call(number: u32, values: &[u64; VALUES]) -> Refusal {
@@ -160,6 +168,9 @@ impl Refusal {
             4 => Refusal::FieldOverflow { offset: a, length: b, remaining: c, place: place() },
             5 => Refusal::WireType { wire_type: a, offset: b, place: place() },
             6 => Refusal::FieldNumber { number: a, offset: b, place: place() },
+            14 => Refusal::EndGroup,
+            15 => Refusal::GroupDepth,
+            16 => Refusal::GroupOpen,
             7 => Refusal::Utf8 { offset: a, place: place() },
             10 => Refusal::BodyTooLarge { length: a },
             11 => Refusal::TooManyRecords { records: a },
@@ -196,6 +207,9 @@ impl Refusal {
             Refusal::FieldOverflow { .. } => 4,
             Refusal::WireType { .. } => 5,
             Refusal::FieldNumber { .. } => 6,
+            Refusal::EndGroup => 14,
+            Refusal::GroupDepth => 15,
+            Refusal::GroupOpen => 16,
             Refusal::Utf8 { .. } => 7,
             Refusal::BodyTooLarge { .. } => 10,
             Refusal::TooManyRecords { .. } => 11,
@@ -257,6 +271,9 @@ impl Refusal {
             Refusal::VarintShort { .. }
             | Refusal::VarintOverflow { .. }
             | Refusal::VarintNotMinimal { .. }
+            | Refusal::EndGroup
+            | Refusal::GroupDepth
+            | Refusal::GroupOpen
             | Refusal::MissingFrom
             | Refusal::InvalidSeqno
             | Refusal::KeyWithoutSignature
@@ -284,6 +301,9 @@ impl fmt::Display for Refusal {
             }
             Refusal::WireType { wire_type, place, .. } => write!(f, "wire type {wire_type}, in the tag that ends at {place}"),
             Refusal::FieldNumber { number, place, .. } => write!(f, "field number {number}, at {place}"),
+            Refusal::EndGroup => write!(f, "an end tag with no open group, or of another number"),
+            Refusal::GroupDepth => write!(f, "groups are more than 32 deep"),
+            Refusal::GroupOpen => write!(f, "the body ends inside a group"),
             Refusal::Utf8 { place, .. } => write!(f, "a topic is not UTF-8: its length stands at {place}"),
             Refusal::BodyTooLarge { length } => write!(f, "a body of {length} bytes, above 65,536"),
             Refusal::TooManyRecords { records } => write!(f, "a body of {records} records, above 512"),
@@ -364,7 +384,7 @@ mod tests {
             let count = match number {
                 4 => 3,
                 5 | 6 => 2,
-                1 | 2 | 3 | 21 | 23 | 24 | 25 | 27 | 34 | 35 | 36 | 40 | 41 | 42 => 0,
+                1 | 2 | 3 | 14 | 15 | 16 | 21 | 23 | 24 | 25 | 27 | 34 | 35 | 36 | 40 | 41 | 42 => 0,
                 _ => 1,
             };
             assert_eq!(values, [11, 12, 13][..count]);

@@ -199,7 +199,7 @@ impl Gateway {
     /// use pradulins::{Gateway, LoadError, Settings};
     /// use std::io::ErrorKind;
     ///
-    /// let settings = Settings { ttl: 3_600_000, max_seen: 256, history_len: 4, max_messages: 64, allow_unsigned: false };
+    /// let settings = Settings { ttl: 3_600_000, max_seen: 256, history_len: 4, max_messages: 64, allow_unsigned: false, skip_groups: false };
     /// let gateway = match Gateway::load_from("gateway.state") {
     ///     Ok(gateway) => gateway,
     ///     Err(LoadError::Read(why)) if why.kind() == ErrorKind::NotFound => Gateway::start(settings)?,
@@ -483,7 +483,7 @@ mod tests {
         use super::*;
         use crate::{body_of, Admitted, Edition, Settings};
 
-        const SETTINGS: Settings = Settings { ttl: 1000, max_seen: 4, history_len: 2, max_messages: 2, allow_unsigned: false };
+        const SETTINGS: Settings = Settings { ttl: 1000, max_seen: 4, history_len: 2, max_messages: 2, allow_unsigned: false, skip_groups: false };
 
         // Where things stand in what a header stands before.
         const EXPIRIES: usize = 80;
@@ -542,19 +542,26 @@ mod tests {
             }
         }
 
-        /// Of an unsigned message that is kept, the gateway that keeps it must allow such; that it allows them while it keeps none is not found out.
+        /// Of an unsigned message that is kept, the gateway that keeps it must allow such, and of one that has a group it must skip groups; that it does so while it
+        /// keeps none is not found out.
         #[test]
         fn flags_that_were_changed() {
             const FLAGS: usize = 12_432;
+            let with = |gateway: &Gateway, flags: u8| word(Gateway::load(&resealed(gateway, |rest| rest[FLAGS] = flags)));
+            let told = |gateway: &Gateway| [0, 1, 2, 3].map(|flags| with(gateway, flags) == "loaded");
             let unsigned = [&[0x12, 0x2e, 0x0a, 0x26][..], &body(b'U')[4..42], b"\x1a\x01\x01\x22\x01t"].concat();
             let mut training = Gateway::start(Settings { allow_unsigned: true, ..SETTINGS }).unwrap();
             assert_eq!(training.admit(Edition::V1_1, &unsigned, 0, false, 5), Ok(Admitted::New));
-            let with = |gateway: &Gateway, flags: u8| word(Gateway::load(&resealed(gateway, |rest| rest[FLAGS] = flags)));
-            assert_eq!((with(&training, 1), with(&training, 0)), ("loaded".to_string(), "Refused(Malformed)".to_string()));
+            assert_eq!((with(&training, 0), told(&training)), ("Refused(Malformed)".to_string(), [false, true, false, true]));
             assert!(Gateway::load(&training.save()).unwrap().settings().allow_unsigned);
+            let grouped = body_of(b'U', b"\x1a\x01\x01\x22\x01t\x0b\x0c");
+            let mut skipping = Gateway::start(Settings { skip_groups: true, ..SETTINGS }).unwrap();
+            assert_eq!(skipping.admit(Edition::V1_1, &grouped, 0, true, 5), Ok(Admitted::New));
+            assert_eq!((with(&skipping, 0), told(&skipping)), ("Refused(Malformed)".to_string(), [false, false, true, true]));
+            assert!(Gateway::load(&skipping.save()).unwrap().settings().skip_groups);
             let gateway = filled();
-            assert_eq!((with(&gateway, 0), with(&gateway, 1)), ("loaded".to_string(), "loaded".to_string()));
-            for flags in [2, 3, 0x80, 0xff] {
+            assert_eq!(told(&gateway), [true; 4]);
+            for flags in [4, 5, 6, 7, 0x80, 0xff] {
                 assert_eq!(with(&gateway, flags), "Refused(Malformed)");
             }
             assert_eq!(word(Gateway::load(&resealed(&gateway, |rest| rest[FLAGS + 7] = 1))), "Refused(Malformed)");

@@ -116,7 +116,7 @@ mod calls {
             values: *mut u64,
         ) -> u32;
         pub fn pradulins_decode(dialect: u32, body: *const u8, body_len: usize, table: *mut u64, table_len: usize, values: *mut u64) -> u32;
-        pub fn pradulins_walk(body: *const u8, body_len: usize, at: usize, values: *mut u64) -> u32;
+        pub fn pradulins_walk(dialect: u32, body: *const u8, body_len: usize, at: usize, values: *mut u64) -> u32;
         pub fn pradulins_write_rpc(
             records: *const u64,
             records_len: usize,
@@ -164,7 +164,7 @@ mod calls {
         pradulins_sign_bytes(u32, *const u8, usize, usize, *mut u8, usize, *mut u64);
         pradulins_message_id(u32, *const u8, usize, usize, *mut u8, usize, *mut u64);
         pradulins_decode(u32, *const u8, usize, *mut u64, usize, *mut u64);
-        pradulins_walk(*const u8, usize, usize, *mut u64);
+        pradulins_walk(u32, *const u8, usize, usize, *mut u64);
         pradulins_write_rpc(*const u64, usize, *const u8, usize, u32, *mut u8, usize, *mut u64);
         pradulins_sign_fields(*const u64, usize, *const u8, usize, usize, *mut u8, usize, *mut u64);
         pradulins_version();
@@ -311,8 +311,8 @@ pub(crate) fn decode(dialect: u32, body: &[u8], table: &mut [u64], values: &mut 
     unsafe { calls::pradulins_decode(dialect, body.as_ptr(), body.len(), table.as_mut_ptr(), table.len(), values.as_mut_ptr()) }
 }
 
-pub(crate) fn walk(body: &[u8], at: usize, values: &mut Values) -> u32 {
-    unsafe { calls::pradulins_walk(body.as_ptr(), body.len(), at, values.as_mut_ptr()) }
+pub(crate) fn walk(dialect: u32, body: &[u8], at: usize, values: &mut Values) -> u32 {
+    unsafe { calls::pradulins_walk(dialect, body.as_ptr(), body.len(), at, values.as_mut_ptr()) }
 }
 
 pub(crate) fn write_rpc(records: &[u64], bytes: &[u8], flags: u32, out: &mut [u8], values: &mut Values) -> u32 {

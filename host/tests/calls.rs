@@ -3,11 +3,11 @@
 
 use pradulins::{decode, message_id, messages, reencode, sign_bytes, sign_fields, sign_fields_into, walk, walk_from, write_rpc, write_rpc_into};
 use pradulins::{
-    Admitted, Clock, Draft, Edition, Gateway, LoadError, Message, Offer, Place, Record, Refusal, Reply, Rpc, Served, Settings, NODE_SIZE,
+    Admitted, Clock, Dialect, Draft, Edition, Gateway, LoadError, Message, Offer, Place, Record, Refusal, Reply, Rpc, Served, Settings, NODE_SIZE,
 };
 use Edition::{V1_1, V1_2};
 
-const SETTINGS: Settings = Settings { ttl: 1000, max_seen: 4, history_len: 2, max_messages: 4, allow_unsigned: false };
+const SETTINGS: Settings = Settings { ttl: 1000, max_seen: 4, history_len: 2, max_messages: 4, allow_unsigned: false, skip_groups: false };
 
 /// The key of the scope's trace.
 const KEY: [u8; 32] = [
@@ -103,11 +103,11 @@ fn the_trace_of_the_scope() {
 #[test]
 fn settings_are_tested() {
     for (max_seen, history_len, max_messages) in [(257, 2, 4), (4, 0, 4), (4, 17, 4), (4, 2, 65), (usize::MAX, 1, 0)] {
-        let settings = Settings { ttl: 0, max_seen, history_len, max_messages, allow_unsigned: false };
+        let settings = Settings { ttl: 0, max_seen, history_len, max_messages, allow_unsigned: false, skip_groups: false };
         assert_eq!(Gateway::start(settings).err(), Some(Refusal::BadSetting));
     }
-    for allow_unsigned in [false, true] {
-        assert!(Gateway::start(Settings { ttl: u64::MAX, max_seen: 0, history_len: 1, max_messages: 0, allow_unsigned }).is_ok());
+    for (allow_unsigned, skip_groups) in [(false, false), (false, true), (true, false), (true, true)] {
+        assert!(Gateway::start(Settings { ttl: u64::MAX, max_seen: 0, history_len: 1, max_messages: 0, allow_unsigned, skip_groups }).is_ok());
     }
 }
 
@@ -198,7 +198,9 @@ fn unsigned_messages_are_written() {
 /// What docs/OPERATING.md says of it: within one ttl, the notice after max_seen others drives the oldest out, which is new when it comes again; nothing is refused.
 #[test]
 fn the_257th_notice() {
-    let mut gateway = Gateway::start(Settings { ttl: 1_000_000, max_seen: 256, history_len: 4, max_messages: 64, allow_unsigned: false }).unwrap();
+    let mut gateway =
+        Gateway::start(Settings { ttl: 1_000_000, max_seen: 256, history_len: 4, max_messages: 64, allow_unsigned: false, skip_groups: false })
+            .unwrap();
     let notice = |n: u16| {
         let sender = notice(&peer_id([b'A'; 32]));
         sender.seqno(Some(&n.to_be_bytes())).body()
@@ -295,13 +297,14 @@ fn bodies() {
     }
 }
 
-/// A body that every call which reads it refuses alike.
+/// A body that every call which reads it refuses alike, in the gateway's mode.
 fn refused_by_each(gateway: &mut Gateway, edition: Edition, bytes: &[u8], refusal: Refusal) {
-    assert_eq!(decode(edition, bytes), Err(refusal), "{bytes:02x?}");
-    assert_eq!(messages(edition, bytes), Err(refusal));
-    assert_eq!(reencode(edition, bytes), Err(refusal));
-    assert_eq!(sign_bytes(edition, bytes, 0), Err(refusal));
-    assert_eq!(message_id(edition, bytes, 0), Err(refusal));
+    let dialect = gateway.dialect(edition);
+    assert_eq!(decode(dialect, bytes), Err(refusal), "{bytes:02x?}");
+    assert_eq!(messages(dialect, bytes), Err(refusal));
+    assert_eq!(reencode(dialect, bytes), Err(refusal));
+    assert_eq!(sign_bytes(dialect, bytes, 0), Err(refusal));
+    assert_eq!(message_id(dialect, bytes, 0), Err(refusal));
     assert_eq!(gateway.admit(edition, bytes, 0, true, 5), Err(refusal));
     assert_eq!(gateway.ask(edition, bytes), Err(refusal));
     assert_eq!(gateway.serve(edition, bytes), Err(refusal));
@@ -348,7 +351,7 @@ fn places() {
             refused_by_each(&mut gateway, edition, bytes, refusal);
         }
         // A walk looks at the body's own fields alone: what a field encloses it does not find.
-        let walked = walk(bytes).find_map(Result::err);
+        let walked = walk(V1_1, bytes).find_map(Result::err);
         if fields.is_empty() {
             assert_eq!(walked, Some(refusal), "{bytes:02x?}");
         }
@@ -741,9 +744,167 @@ fn published_messages() {
 #[test]
 fn a_walk_ends() {
     let bytes = [0x1a, 0, 0x0a, 2, 8, 1, 0x80];
-    let fields: Vec<_> = walk(&bytes).map(|field| field.map(|f| (f.number, f.wire_type, f.bytes, f.end))).collect();
+    let fields: Vec<_> = walk(V1_1, &bytes).map(|field| field.map(|f| (f.number, f.wire_type, f.bytes, f.end))).collect();
     assert_eq!(fields, [Ok((3, 2, &[0][..], 2)), Ok((1, 2, &[2, 8, 1][..], 6)), Err(Refusal::VarintShort { place: Place::new(6, &[]) })]);
-    assert!(walk_from(&bytes, usize::MAX).next().is_none());
+    assert!(walk_from(V1_1, &bytes, usize::MAX).next().is_none());
+}
+
+/// An edition in which groups are skipped.
+fn skipping(edition: Edition) -> Dialect {
+    Dialect { edition, skip_groups: true }
+}
+
+/// A body in 1.1 or 1.2, in the first mode: type 3 or 4 is refused, by the place after its tag.
+fn unsupported(wire_type: u64, offset: u64, place: usize, fields: &[u64]) -> Refusal {
+    Refusal::WireType { wire_type, offset, place: Place::new(place, fields) }
+}
+
+/// The scope's rows on groups that are accepted: what each is written as, and how the first mode refuses it.
+#[test]
+fn groups_that_are_skipped() {
+    let (deep, inside) = ([[0x0b; 32], [0x0c; 32]].concat(), [&[0x1a, 0x40][..], &[0x0b; 32], &[0x0c; 32]].concat());
+    let message = [0x12, 8, 0x0a, 1, 0x42, 0x0b, 0x0a, 1, 0x41, 0x0c];
+    type Row<'a> = (&'a [u8], &'a [u8], Refusal);
+    let rows: [Row; 11] = [
+        (&[0x0b, 0x0c], &[], unsupported(3, 1, 1, &[])),
+        (&[0x1b, 0x1c], &[], unsupported(3, 1, 1, &[])),
+        (&[0x83, 1, 0x84, 1], &[], unsupported(3, 2, 2, &[])),
+        (&[0x0b, 0x13, 0x14, 0x0c], &[], unsupported(3, 1, 1, &[])),
+        (&deep, &[], unsupported(3, 1, 1, &[])),
+        (&inside, &[0x1a, 0], unsupported(3, 1, 3, &[3])),
+        (&[0x12, 2, 0x0b, 0x0c], &[0x12, 2, 0x0b, 0x0c], unsupported(3, 1, 3, &[2])),
+        (&message, &message, unsupported(3, 4, 6, &[2])),
+        (&[0x1a, 2, 0x0b, 0x0c], &[0x1a, 0], unsupported(3, 1, 3, &[3])),
+        (&[0x0a, 5, 0x0b, 0x12, 1, 0xff, 0x0c], &[0x0a, 0], unsupported(3, 1, 3, &[1])),
+        (&[0x0b, 0x10, 0x96, 1, 0x0c, 0x1a, 0], &[0x1a, 0], unsupported(3, 1, 1, &[])),
+    ];
+    let mut first = Gateway::start(SETTINGS).unwrap();
+    let second = Gateway::start(Settings { skip_groups: true, ..SETTINGS }).unwrap();
+    for (body, written, refusal) in rows {
+        for edition in [V1_1, V1_2] {
+            refused_by_each(&mut first, edition, body, refusal);
+            assert_eq!(reencode(skipping(edition), body).as_deref(), Ok(written), "{body:02x?}");
+            assert_eq!(second.ask(edition, body), Ok(vec![]));
+            assert_eq!(second.serve_without(edition, body, body), Ok(Reply { body: vec![], messages: 0, left: 0 }));
+        }
+    }
+    // Bytes that are not read are the same in both modes; what is read in a control of 1.2 is not.
+    for dialect in [Dialect::from(V1_1), Dialect::from(V1_2), skipping(V1_1), skipping(V1_2)] {
+        assert_eq!(reencode(dialect, &[0x2a, 1, 0x0b]), Ok(vec![]));
+    }
+    let declined = [0x1a, 3, 0x2a, 1, 0x0b];
+    assert_eq!((reencode(skipping(V1_1), &declined), reencode(skipping(V1_2), &declined)), (Ok(vec![0x1a, 0]), Err(Refusal::GroupOpen)));
+    // What a message holds, and what is signed: nothing of a group.
+    let read = messages(skipping(V1_1), &message).unwrap();
+    assert_eq!((read[0].raw, read[0].from, read[0].topics.len()), (&message[2..], Some(&b"B"[..]), 0));
+    assert_eq!(sign_bytes(skipping(V1_1), &message, 0).unwrap(), b"libp2p-pubsub:\x0a\x01\x42");
+    assert_eq!(sign_bytes(skipping(V1_1), &[0x12, 2, 0x0b, 0x0c], 0).unwrap(), b"libp2p-pubsub:");
+    // A walk has a group as one field.
+    let body = [0x0b, 0x10, 0x96, 1, 0x0c, 0x1a, 0];
+    let fields: Vec<_> = walk(skipping(V1_1), &body).map(|field| field.map(|f| (f.number, f.wire_type, f.bytes, f.end))).collect();
+    assert_eq!(fields, [Ok((1, 3, &[0x10, 0x96, 1, 0x0c][..], 5)), Ok((3, 2, &[0][..], 7))]);
+    assert_eq!(walk(V1_1, &body).next(), Some(Err(unsupported(3, 1, 1, &[]))));
+    assert_eq!(walk_from(skipping(V1_2), &body, 1).nth(1), Some(Err(Refusal::EndGroup)));
+}
+
+/// The scope's rows on groups that are refused: by every call that reads a body, and where no submessage is around them by a walk.
+#[test]
+fn groups_that_are_refused() {
+    let (deeper, closed) = ([0x0b; 33], [[0x0b; 33], [0x0c; 33]].concat());
+    let (deep, none) = ([0x0b; 32], [&[0x0b; 32][..], &[3]].concat());
+    let place = |offset| Place::new(offset, &[]);
+    let rows: [(&[u8], Refusal); 18] = [
+        (&[0x0b], Refusal::GroupOpen),
+        (&[0x0b, 8, 1], Refusal::GroupOpen),
+        (&[0x1a, 1, 0x0b, 0x0c], Refusal::GroupOpen),
+        (&deep, Refusal::GroupOpen),
+        (&[0x0c], Refusal::EndGroup),
+        (&[0x0b, 0x14], Refusal::EndGroup),
+        (&[0x0b, 0x13, 0x0c], Refusal::EndGroup),
+        (&[0x0b, 0x0c, 0x0c], Refusal::EndGroup),
+        (&[0x12, 1, 0x0c], Refusal::EndGroup),
+        (&deeper, Refusal::GroupDepth),
+        (&closed, Refusal::GroupDepth),
+        (&none, Refusal::FieldNumber { number: 0, offset: 32, place: place(32) }),
+        (&[0x0b, 4], Refusal::FieldNumber { number: 0, offset: 1, place: place(1) }),
+        (&[0x0b, 0x0e], Refusal::WireType { wire_type: 6, offset: 2, place: place(2) }),
+        (&[0x0b, 0x0a, 5, 8], Refusal::FieldOverflow { offset: 3, length: 5, remaining: 1, place: place(3) }),
+        (&[0x0b, 8], Refusal::VarintShort { place: place(2) }),
+        (&[0x0b, 0x80], Refusal::VarintShort { place: place(1) }),
+        (&[0x0b, 0x8c, 0], Refusal::VarintNotMinimal { place: place(1) }),
+    ];
+    let mut gateway = Gateway::start(Settings { skip_groups: true, ..SETTINGS }).unwrap();
+    for (body, refusal) in rows {
+        for edition in [V1_1, V1_2] {
+            refused_by_each(&mut gateway, edition, body, refusal);
+            assert_eq!(gateway.serve_without(edition, &[], body), Err(refusal));
+        }
+        // A walk enters no submessage; what stands behind one is at the top.
+        let walked = match body {
+            [0x12, ..] => None,
+            [0x1a, ..] => Some(Refusal::EndGroup),
+            _ => Some(refusal),
+        };
+        assert_eq!(walk(skipping(V1_1), body).find_map(Result::err), walked, "{body:02x?}");
+        if matches!(refusal.number(), 14..=16) {
+            assert_eq!((refusal.values(), refusal.place()), (vec![], None));
+        }
+    }
+    // What the first mode refuses is refused alike, but for types 3 and 4.
+    let first = Gateway::start(SETTINGS).unwrap();
+    for body in [&[0x80][..], &[0], &[0x0e], &[0x0f], &[0x0a, 5, 8], &[0x0a, 3, 0x12, 1, 0xff]] {
+        assert_eq!((gateway.ask(V1_1, body), walk(skipping(V1_1), body).next()), (first.ask(V1_1, body), walk(V1_1, body).next()));
+    }
+}
+
+/// A group of 32,767 fields, the most that a body has room for, and groups 32 deep need no more stack than the header says.
+#[test]
+fn groups_on_a_small_stack() {
+    let wide = [&[0x0b][..], &[8, 0].repeat(32_767), &[0x0c]].concat();
+    let deep = [[0x0b; 32], [0x0c; 32]].concat().repeat(1024);
+    let run = move || {
+        let gateway = Gateway::start(Settings { skip_groups: true, ..SETTINGS }).unwrap();
+        for body in [&wide, &deep] {
+            assert_eq!((body.len(), reencode(skipping(V1_2), body), gateway.ask(V1_2, body)), (65_536, Ok(vec![]), Ok(vec![])));
+            assert_eq!(walk(skipping(V1_2), body).filter(Result::is_ok).count(), if body == &wide { 1 } else { 1024 });
+        }
+    };
+    std::thread::Builder::new().stack_size(1 << 20).spawn(run).unwrap().join().unwrap();
+}
+
+/// Messages that have a group: a gateway that skips groups keeps and serves them as they came, and one that does not refuses the whole reply.
+#[test]
+fn groups_between_gateways() {
+    let sender = notice(&peer_id(KEY));
+    let (x, plain) = (sender.body(), sender.seqno(Some(&[2])).body());
+    let grouped = field(2, &[&x[2..], &[0x0b, 0x22, 1, 0xff, 0x0c]].concat());
+    let dialect = skipping(V1_1);
+    // The id and what is signed are those of the message without its group; a topic in a group is none, and is not tested.
+    assert_eq!((message_id(dialect, &grouped, 0), sign_bytes(dialect, &grouped, 0)), (message_id(V1_1, &x, 0), sign_bytes(V1_1, &x, 0)));
+    assert_eq!(messages(dialect, &grouped).unwrap()[0].topics, ["t"]);
+    let settings = Settings { skip_groups: true, ..SETTINGS };
+    let (mut one, mut other, mut first) = (Gateway::start(settings).unwrap(), Gateway::start(settings).unwrap(), Gateway::start(SETTINGS).unwrap());
+    assert_eq!((one.settings(), one.dialect(V1_1)), (settings, dialect));
+    assert_eq!(one.admit(V1_1, &grouped, 0, true, 5), Ok(Admitted::New));
+    assert_eq!((one.admit(V1_1, &x, 0, true, 5), one.admit(V1_1, &plain, 0, true, 5)), (Ok(Admitted::Duplicate), Ok(Admitted::New)));
+    assert!(Gateway::load(&one.save()).unwrap() == one);
+    // They catch up with each other, and then make the same advertisement.
+    let offer = one.advertise(b"t", 1).unwrap();
+    let reply = one.serve(V1_1, &other.ask(V1_1, &offer).unwrap()).unwrap();
+    assert_eq!(reply, Reply { body: [&grouped[..], &plain].concat(), messages: 2, left: 0 });
+    assert_eq!([0, 1].map(|index| other.admit(V1_1, &reply.body, index, true, 7)), [Ok(Admitted::New), Ok(Admitted::New)]);
+    assert_eq!(other.advertise(b"t", 1), Ok(offer.clone()));
+    // One in the first mode asks for both, refuses the reply, and asks for both again.
+    let request = first.ask(V1_1, &offer).unwrap();
+    for index in [0, 1] {
+        assert_eq!(first.admit(V1_1, &reply.body, index, true, 7), Err(unsupported(3, 113, 115, &[2])));
+    }
+    assert_eq!((first.ask(V1_1, &offer), first.seen()), (Ok(request.clone()), 0));
+    // The second body of serve is read in the gateway's mode, too.
+    let unwanted = [&[0x0b, 0x0c][..], &named(5, &[&message_id(V1_1, &x, 0).unwrap()])].concat();
+    assert_eq!(one.serve_without(V1_1, &request, &unwanted), Ok(Reply { body: plain.clone(), messages: 1, left: 0 }));
+    assert_eq!(first.admit(V1_1, &plain, 0, true, 7), Ok(Admitted::New));
+    assert_eq!(first.serve_without(V1_1, &request, &unwanted), Err(unsupported(3, 1, 1, &[])));
 }
 
 /// Saved and loaded after every call, as a host might do it, each time with a new clock. An hour of ttl: the test may be slow.

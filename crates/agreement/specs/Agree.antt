@@ -5,6 +5,8 @@ use mathlib.Core.Path.{_≡_, refl, sym, ap, subst, _∙_}
 use mathlib.Core.Bool.{true, false}
 use mathlib.Core.List.{List, [], _∷_, List·Memᴰ, List·Memᴰ·head, List·Memᴰ·tail}
 use lib.ListN.{length}
+use Rattle.basis.specs.declared.Mode.{Mode}
+use Rattle.basis.specs.Dialect.{modeOf}
 use Rattle.basis.specs.Cases.{either}
 use Rattle.rows.specs.Ids.{among}
 use Rattle.admission.specs.Admission.{topicsOf}
@@ -23,14 +25,14 @@ use Rattle.agreement.specs.Identical.{Kept, rows-kept, rows-entry, none-
 use Rattle.agreement.specs.CatchUp.{teller-stays, CaughtUp, allAsked, allTold, caught-up, all-arrived}
 
 -- ---- what a gateway does not lack it does not lack after the other got more, where it had that itself
-all-known : (topic : List ℕ) (g : Gateway) (cs : List Cached)
-    → ((c : Cached) → List·Memᴰ c cs → among topic (topics c) ≡ true → knows g (c .id) ≡ true)
-    → missing topic g cs ≡ []
+all-known : (mode : Mode) (topic : List ℕ) (g : Gateway) (cs : List Cached)
+    → ((c : Cached) → List·Memᴰ c cs → among topic (topics mode c) ≡ true → knows g (c .id) ≡ true)
+    → missing mode topic g cs ≡ []
 unfolding missing
-all-known topic g [] h = refl
-all-known topic g (c ∷ cs) h =
-    let r = all-known topic g cs (λ k d t. h k (List·Memᴰ·tail d) t) in
-    either (among topic (topics c)) (λ t. simp (t, h c (List·Memᴰ·head refl) t) r) (λ t. simp t r)
+all-known mode topic g [] h = refl
+all-known mode topic g (c ∷ cs) h =
+    let r = all-known mode topic g cs (λ k d t. h k (List·Memᴰ·tail d) t) in
+    either (among topic (topics mode c)) (λ t. simp (t, h c (List·Memᴰ·head refl) t) r) (λ t. simp t r)
 
 module _ {set : List (List ℕ)} {x y : Settings} (ms : MessageSet (x .flags) set) (alike : Alike x y)
     {firstA pastA leftA firstB pastB leftB firstC pastC leftC : ℕ} {rsA rsB rsC : List ℕ}
@@ -39,7 +41,8 @@ module _ {set : List (List ℕ)} {x y : Settings} (ms : MessageSet (x .flags) se
     (hc : Holding set y firstC pastC rsC leftC gotC c)
     (only : (m : List ℕ) → among m gotC ≡ true → among m gotB ≡ false → among m gotA ≡ true) (topic : List ℕ)
     (none : lacked topic a b ≡ []) where
-  module _ (e : Cached) (there : List·Memᴰ e (gatewayOf c .cache)) (carries : among topic (topics e) ≡ true) where
+  module _ (e : Cached) (there : List·Memᴰ e (gatewayOf c .cache))
+      (carries : among topic (topics (modeOf (gatewayOf c .flags)) e) ≡ true) where
     -- it is among those that c got, under the flags of all three
     kept : Kept (x .flags) e gotC
     kept = rows-kept e (rows-under (sym alike) (hc .held .rows)) there
@@ -55,9 +58,12 @@ module _ {set : List (List ℕ)} {x y : Settings} (ms : MessageSet (x .flags) se
     had : among (e .message) gotB ≡ true → among (e .message) gotA ≡ true
     had t =
         let r = rows-entry (e .message) (rows-under (sym alike) (hb .held .rows)) t in
-        let carried = subst (λ (m : List ℕ). List·Memᴰ topic (topicsOf m)) (sym (r .message))
-        (among-in topic (topics e) carries) in
-        let s = none-missing topic (gatewayOf a) (gatewayOf b .cache) (r .entry) none (r .there) carried in
+        let f = hc .held .flags ∙ sym (hb .held .flags) in
+        let carried = subst (λ (m : List ℕ). List·Memᴰ topic (topicsOf (modeOf (gatewayOf b .flags)) m))
+        (sym (r .message)) (among-in topic (topics (modeOf (gatewayOf b .flags)) e)
+        (subst (λ (f : ℕ). among topic (topics (modeOf f) e) ≡ true) f carries)) in
+        let s = none-missing (modeOf (gatewayOf b .flags)) topic (gatewayOf a) (gatewayOf b .cache) (r .entry) none
+        (r .there) carried in
         let q : r .entry .id ≡ e .id = one-id (x .flags) (e .message) (r .entry .id) (e .id) (r .own) (kept .own) in
         sym known ∙ ap (knows (gatewayOf a)) (sym q) ∙ s
 
@@ -65,7 +71,7 @@ module _ {set : List (List ℕ)} {x y : Settings} (ms : MessageSet (x .flags) se
     now-known = known ∙ either (among (e .message) gotB) had (λ t. only (e .message) (kept .was-got) t)
 
   pub still-none : lacked topic a c ≡ []
-  still-none = all-known topic (gatewayOf a) (gatewayOf c .cache) now-known
+  still-none = all-known (modeOf (gatewayOf c .flags)) topic (gatewayOf a) (gatewayOf c .cache) now-known
 
 -- ---- both ways
 -- gateway a asks for r rounds, then b asks for s rounds; the premises on the two clocks reach over the rounds in which

@@ -10,6 +10,7 @@ use lib.ListN.{length, getD, take, length-append}
 use lib.Seq.{length-take-le, take-length}
 use lib.Dec.{eqb}
 use borrow.Author.Tests.{eqb-true, eqb-false}
+use Rattle.basis.specs.Dialect.{modeOf}
 use Rattle.basis.specs.declared.Edition.{Edition}
 use Rattle.basis.specs.Cases.{either, clash}
 use Rattle.rows.specs.Ids.{sameBytes, among, distinct}
@@ -29,7 +30,7 @@ use Rattle.agreement.specs.Holding.{withGot, gotBy, gotNext, gotAll, mem
 use Rattle.agreement.specs.Holding.{admit-done, holding-admit}
 use Rattle.agreement.specs.Once.{with-again, with-this, with-other}
 use Rattle.agreement.specs.HandOver.{lacking-exactly}
-use Rattle.agreement.specs.Delivered.{brought-delivered}
+use Rattle.agreement.specs.Delivered.{Delivers, brought-delivered}
 use Rattle.agreement.specs.Lacking.{Got, told-got, wants-once, wants-count}
 use Rattle.agreement.specs.Played.{advert-done, request-done, reply-done, replied, served-is, wants, replies}
 use Rattle.agreement.specs.Played.{replies-count, reply-at, reply-got, enough, reply-delivers}
@@ -142,14 +143,17 @@ module _ {set : List (List ℕ)} {x y : Settings} (ms : MessageSet (x .flags) se
   got-of : (i : ℕ) → i < servedCount p a b → Got (y .flags) (getD named i []) (getD handed i []) gotB
   got-of i l = let f = served-few in reply-got ha hb p fair i (omega arith)
 
-  -- what is served is delivered
+  -- what is served is delivered, in the mode of both
+  in-mode : Delivers (modeOf (x .flags)) handed (p .reply-out 0)
+  in-mode = subst (λ (f : ℕ). Delivers (modeOf f) handed (p .reply-out 0)) (sym alike) (reply-delivers ha hb p fair)
+
   reply-brings : (i : ℕ) → i < servedCount p a b
       → brought (x .flags) (admit (p .admit-edition 0 i) (replyOf p a b) i true (at i)) ≡ some (getD handed i [])
   reply-brings i l =
       let e = served-is ha hb p fair in
       rw (replied ha hb p fair)
-      (brought-delivered (x .flags) handed (p .reply-out 0) (reply-delivers ha hb p fair) (p .admit-edition 0 i) i
-      (at i) (omega arith))
+      (brought-delivered (x .flags) handed (p .reply-out 0) in-mode (p .admit-edition 0 i) i (at i)
+      (omega arith))
 
   inside : (i : ℕ) → i < servedCount p a b → among (getD handed i []) set ≡ true
   inside i l = hb .held .from-set (getD handed i []) (got-of i l .among-got)

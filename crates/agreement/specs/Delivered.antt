@@ -8,10 +8,11 @@ use mathlib.Core.Option.{some}
 use native.Mathlib.Omega.{arith}
 use lib.ListN.{length, getD}
 use lib.Seq.{getD-take}
+use Rattle.basis.specs.declared.Mode.{Mode}
 use Rattle.basis.specs.declared.Edition.{Edition}
 use Rattle.basis.specs.declared.Edition.the-variants.{V11}
 use Rattle.basis.specs.declared.Dialect.{Dialect}
-use Rattle.basis.specs.Dialect.{spoken}
+use Rattle.basis.specs.Dialect.{modeOf, spoken}
 use Rattle.basis.specs.Bytes.{Bytes}
 use Rattle.protobuf.specs.declared.Checked.the-variants.{Fine}
 use Rattle.rpc.specs.Rpc.{RawMessage, Rpc}
@@ -28,6 +29,7 @@ use Rattle.node.specs.declared.Lent.the-variants as lent
 use Rattle.node.specs.Gateway.{toldOf, lacking, having}
 use Rattle.node.specs.State.{gatewayIn}
 use Rattle.node.specs.Calls.{lentOf, advertiseBytes, askBytes, servedOf, replyBytes}
+use Rattle.outputs.specs.Outcomes.{itself}
 use Rattle.outputs.specs.Replied.{Replies, serve-means}
 use Rattle.history.specs.History.{admit, Placed, brought}
 use Rattle.history.specs.Laws.{carried-brought}
@@ -41,46 +43,50 @@ nth-raw (there n) = nth-raw n
 
 -- ---- the message at an index of a body, byte for byte
 placed-by : {d : Dialect} {s : List ℕ} {x : Rpc} (i : ℕ) (r : MessageAt) → IsRpc d s x → i < length (x .publish)
-    → messageAt s i ≡ r → Placed s i (getD (map (λ (m : RawMessage). m .raw) (x .publish)) i [])
-placed-by i (At a e) g h q =
+    → messageAt (d .mode) s i ≡ r → Placed (d .mode) s i (getD (map (λ (m : RawMessage). m .raw) (x .publish)) i [])
+placed-by {d} i (At a e) g h q =
     let f = message-found i a e g q in
-    record { start = a; next = e; found = q; bytes = sym (raw-is (f .2)) ∙ sym (nth-raw (f .1)) }
+    record { start = a; next = e; found = q; bytes = sym (raw-is (d .mode) (f .2)) ∙ sym (nth-raw (f .1)) }
 placed-by i (Count k) g h q = let l = message-missing i k g q in absurd (omega (arith, l .1))
 
--- ---- a reply as it is read, in every dialect
-pub record Delivers (ms : List (List ℕ)) (out : List ℕ) : Type 0 where
-  pub accepted : (d : Dialect) → acceptOf d (replyBytes ms out) ≡ Fine
+-- ---- a reply as it is read in a mode, in every edition
+pub record Delivers (mode : Mode) (ms : List (List ℕ)) (out : List ℕ) : Type 0 where
+  pub accepted : (ed : Edition) → acceptOf (spoken mode ed) (replyBytes ms out) ≡ Fine
   -- at an index below the number served stands exactly that message
-  pub each : (i : ℕ) → i < servedOf ms out → Placed (replyBytes ms out) i (getD ms i [])
-  pub no-more : (i : ℕ) → servedOf ms out ≤ i → messageAt (replyBytes ms out) i ≡ Count (servedOf ms out)
+  pub each : (i : ℕ) → i < servedOf ms out → Placed mode (replyBytes ms out) i (getD ms i [])
+  pub no-more : (i : ℕ) → servedOf ms out ≤ i → messageAt mode (replyBytes ms out) i ≡ Count (servedOf ms out)
 
-pub delivers : (ms : List (List ℕ)) (out : List ℕ) → Replies ms out → Delivers ms out
-delivers ms out r =
+pub delivers : (mode : Mode) (ms : List (List ℕ)) (out : List ℕ) → Replies mode ms out → Delivers mode ms out
+delivers mode ms out r =
     let s = replyBytes ms out in
     let n = r .count in
     record {
-      accepted = λ d. taken (r .within d);
+      accepted = λ ed. taken (r .within (spoken mode ed) itself);
       each = λ i h.
-          subst (λ (m : List ℕ). Placed s i m)
+          subst (λ (m : List ℕ). Placed mode s i m)
           (ap (λ (l : List (List ℕ)). getD l i []) (r .messages) ∙ getD-take (servedOf ms out) ms i [] h)
-          (placed-by i (messageAt s i) (r .within (spoken V11) .means) (omega arith) refl);
-      no-more = λ i h. none-in i (messageAt s i) (r .within (spoken V11) .means) (omega arith) refl ∙ ap Count n;
+          (placed-by i (messageAt mode s i) (r .within (spoken mode V11) itself .means) (omega arith) refl);
+      no-more = λ i h. none-in i (messageAt mode s i) (r .within (spoken mode V11) itself .means) (omega arith) refl
+          ∙ ap Count n;
     }
 
 -- an admit of such an index, with the host's word, brings that message
-pub brought-delivered : (flags : ℕ) (ms : List (List ℕ)) (out : List ℕ) → Delivers ms out → (ed : Edition) (i at : ℕ)
+pub brought-delivered : (flags : ℕ) (ms : List (List ℕ)) (out : List ℕ) → Delivers (modeOf flags) ms out
+    → (ed : Edition) (i at : ℕ)
     → i < servedOf ms out → brought flags (admit ed (replyBytes ms out) i true at) ≡ some (getD ms i [])
 brought-delivered flags ms out d ed i at h =
-    carried-brought flags ed (replyBytes ms out) i at (getD ms i []) (d .accepted (spoken ed)) (d .each i h)
+    carried-brought flags ed (replyBytes ms out) i at (getD ms i []) (d .accepted ed) (d .each i h)
 
 -- ---- the reply to the request of node a for what node b tells of
 module _ (b : Node) (bs bc topic : List ℕ) (windows : ℕ) (fine : lentOf b bs bc ≡ lent.Fine) (bytes : Bytes bc)
     (short : length topic ≤ 1024) (a : Node) («as» ac out : List ℕ) where
-  pub reply-taken : Delivers
+  pub reply-taken : Delivers (modeOf (b .cache .flags))
       (having (gatewayIn b bs bc) (lacking (gatewayIn a «as» ac) (toldOf topic windows (gatewayIn b bs bc)))) out
   reply-taken =
       let body = askBytes a «as» (advertiseBytes b bc topic windows) in
-      delivers (having (gatewayIn b bs bc) (lacking (gatewayIn a «as» ac) (toldOf topic windows (gatewayIn b bs bc))))
+      delivers (modeOf (b .cache .flags)) (having (gatewayIn b bs bc)
+      (lacking (gatewayIn a «as» ac) (toldOf topic windows (gatewayIn b bs bc))))
       out
-      (subst (λ (ms : List (List ℕ)). Replies ms out) (reply-has b bs bc topic windows fine bytes short a «as» ac)
+      (subst (λ (ms : List (List ℕ)). Replies (modeOf (b .cache .flags)) ms out)
+      (reply-has b bs bc topic windows fine bytes short a «as» ac)
       (serve-means b bs bc body [] out fine bytes))

@@ -6,6 +6,7 @@ use mathlib.Core.Bool.{true}
 use mathlib.Core.List.{List, [], _∷_, _++_, append-nil}
 use native.Mathlib.Omega.{arith}
 use lib.ListN.{length}
+use Rattle.basis.specs.Dialect.{modeOf}
 use Rattle.basis.specs.declared.Edition.the-variants.{V11, V12}
 use Rattle.basis.specs.Cases.{either, clash}
 use Rattle.peer_id.specs.Uvarint.{uvarint, bytesOf, readUvarint, readFrom, groupOf}
@@ -104,21 +105,22 @@ b-is = ap (λ (cs : List Call). gatewayOf (afterAll cs (start settings-b))) (sym
     ∙ fresh-leaves script-b fresh-b written-b ∙ script-leaves-b
 
 -- ---- a lacks the second message, and b lacks nothing
-a-misses : missing topic gateway-a (gateway-b .cache) ≡ record { id = second-id; message = second; window = 1 } ∷ []
+a-misses : missing (modeOf (gateway-b .flags)) topic gateway-a (gateway-b .cache)
+    ≡ record { id = second-id; message = second; window = 1 } ∷ []
 unfolding gateway-a gateway-b missing knows allowsUnsigned holds among sameBytes signature first second walkAt walkFrom
     readField readValue skipField skipFixed readVarint readLen readTag readUvarint readFrom groupOf topicsOf
 a-misses = refl
 
-b-misses : missing topic gateway-b (gateway-a .cache) ≡ []
+b-misses : missing (modeOf (gateway-a .flags)) topic gateway-b (gateway-a .cache) ≡ []
 unfolding gateway-a gateway-b missing knows allowsUnsigned holds among sameBytes signature first second walkAt walkFrom
     readField readValue skipField skipFixed readVarint readLen readTag readUvarint readFrom groupOf topicsOf
 b-misses = refl
 
 pub a-lacks-the-second : lacked topic at-a at-b ≡ record { id = second-id; message = second; window = 1 } ∷ []
-a-lacks-the-second = ap₂ (λ (g h : Gateway). missing topic g (h .cache)) a-is b-is ∙ a-misses
+a-lacks-the-second = ap₂ (λ (g h : Gateway). missing (modeOf (h .flags)) topic g (h .cache)) a-is b-is ∙ a-misses
 
 pub b-lacks-nothing : lacked topic at-b at-a ≡ []
-b-lacks-nothing = ap₂ (λ (g h : Gateway). missing topic g (h .cache)) b-is a-is ∙ b-misses
+b-lacks-nothing = ap₂ (λ (g h : Gateway). missing (modeOf (h .flags)) topic g (h .cache)) b-is a-is ∙ b-misses
 
 -- ---- a's request, given b's advertisement, names its id
 holding-a : Holding messages settings-a (firstOf calls-a) (pastAll 0 calls-a) [] 0
@@ -284,13 +286,14 @@ b-stays = refl
 b-is-then : gatewayOf later-b ≡ gateway-b
 b-is-then = ap gatewayOf b-stays ∙ b-is
 
-b-misses-then : missing topic gateway-b (gateway-a-then .cache) ≡ []
+b-misses-then : missing (modeOf (gateway-a-then .flags)) topic gateway-b (gateway-a-then .cache) ≡ []
 unfolding gateway-a-then gateway-b missing knows allowsUnsigned holds among sameBytes signature first second walkAt
     walkFrom readField readValue skipField skipFixed readVarint readLen readTag readUvarint readFrom groupOf topicsOf
 b-misses-then = refl
 
 pub b-lacks-nothing-then : lacked topic later-b later-a ≡ []
-b-lacks-nothing-then = ap₂ (λ (g h : Gateway). missing topic g (h .cache)) b-is-then a-is-then ∙ b-misses-then
+b-lacks-nothing-then = ap₂ (λ (g h : Gateway). missing (modeOf (h .flags)) topic g (h .cache)) b-is-then a-is-then
+    ∙ b-misses-then
 
 -- ---- and both advertise in the same bytes, each with another buffer
 pub same-bytes : Identical topic 2 3 (buffer 5 1) (buffer 0 2) later-a later-b

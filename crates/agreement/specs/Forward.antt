@@ -5,7 +5,7 @@ use mathlib.Core.Bool.{Bool}
 use mathlib.Core.List.{List, _∷_}
 use borrow.Author.Tests.{le-ltb}
 use Rattle.basis.specs.declared.Edition.{Edition}
-use Rattle.basis.specs.Dialect.{spoken}
+use Rattle.basis.specs.Dialect.{modeOf, spoken}
 use Rattle.basis.specs.Cases.{clash}
 use Rattle.protobuf.specs.declared.Checked.{Checked}
 use Rattle.protobuf.specs.declared.Checked.the-variants as checked
@@ -38,13 +38,14 @@ module _ (n : Node) (at : ℕ) (h : n .clock ≤ at) (k : ℕ) where
   of-body : (word : Bool) (body : List ℕ) (i : ℕ) (r : Checked) → planBody n at word body i r ≡ no (answer.ClockBack k)
       → ⊥
   of-body word body i (checked.Refused why) e = clash (cc)
-  of-body word body i checked.Fine e = of-at word body (messageAt body i) e
+  of-body word body i checked.Fine e = of-at word body (messageAt (modeOf (n .cache .flags)) body i) e
 
   of-lent : (ed : Edition) (word : Bool) (body : List ℕ) (i : ℕ) (l : Lent)
-      → onLent (λ (why : Fault). no (answer.Faulty why)) l (planBody n at word body i (acceptOf (spoken ed) body))
+      → onLent (λ (why : Fault). no (answer.Faulty why)) l
+      (planBody n at word body i (acceptOf (spoken (modeOf (n .cache .flags)) ed) body))
       ≡ no (answer.ClockBack k) → ⊥
   of-lent ed word body i (lent.Faulty why) e = clash (cc)
-  of-lent ed word body i lent.Fine e = of-body word body i (acceptOf (spoken ed) body) e
+  of-lent ed word body i lent.Fine e = of-body word body i (acceptOf (spoken (modeOf (n .cache .flags)) ed) body) e
 
   never-back : (ss cs : List ℕ) (ed : Edition) (body : List ℕ) (i : ℕ) (word : Bool)
       → planned n ss cs ed body i word at ≡ no (answer.ClockBack k) → ⊥

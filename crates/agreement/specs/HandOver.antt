@@ -7,9 +7,10 @@ use mathlib.Core.List.{List, [], _∷_, _++_, append-nil}
 use mathlib.Core.Logic.{_↔_}
 use native.Mathlib.Omega.{arith}
 use lib.ListN.{length, length-append}
+use Rattle.basis.specs.declared.Mode.{Mode}
 use Rattle.basis.specs.declared.Edition.the-variants.{V11}
 use Rattle.basis.specs.declared.Dialect.{Dialect}
-use Rattle.basis.specs.Dialect.{spoken}
+use Rattle.basis.specs.Dialect.{modeOf, spoken}
 use Rattle.basis.specs.Cases.{either, clash, both}
 use Rattle.basis.specs.Bytes.{Bytes}
 use Rattle.rows.specs.Ids.{sameBytes, among, distinct}
@@ -133,9 +134,11 @@ module _ (b : Node) (bs bc topic : List ℕ) (windows : ℕ) (fine : lentOf b bs
     asked = lacking (gatewayIn a «as» ac) (toldOf topic windows (gatewayIn b bs bc))
 
     -- it asks for what is lacking of what is told of
-    pub request-names : unseenOf a «as» (offered (advertiseBytes b bc topic windows)) ≡ lacking (gatewayIn a «as» ac)
+    pub request-names : unseenOf a «as» (offered (modeOf (a .cache .flags)) (advertiseBytes b bc topic windows))
+        ≡ lacking (gatewayIn a «as» ac)
         (toldOf topic windows (gatewayIn b bs bc))
-    request-names = ap (unseenOf a «as») (advert-offers b bs bc topic windows fine bytes short)
+    request-names = ap (unseenOf a «as») (advert-offers b bs bc topic windows fine bytes short
+        (modeOf (a .cache .flags)))
         ∙ unseen-gateway a «as» ac (toldOf topic windows (gatewayIn b bs bc))
 
     pub request-is : askBytes a «as» (advertiseBytes b bc topic windows) ≡ bytesFor asked (request asked)
@@ -153,7 +156,7 @@ module _ (b : Node) (bs bc topic : List ℕ) (windows : ℕ) (fine : lentOf b bs
 
     pub asked-once : distinct (lacking (gatewayIn a «as» ac) (toldOf topic windows (gatewayIn b bs bc))) ≡ true
     asked-once = lacking-distinct (gatewayIn a «as» ac) (toldOf topic windows (gatewayIn b bs bc))
-        (told-distinct topic windows (gatewayIn b bs bc .cache))
+        (told-distinct (modeOf (gatewayIn b bs bc .flags)) topic windows (gatewayIn b bs bc .cache))
 
     pub lacks-exactly : (i : List ℕ)
         → (among i (lacking (gatewayIn a «as» ac) (toldOf topic windows (gatewayIn b bs bc))) ≡ true)
@@ -192,25 +195,30 @@ module _ (b : Node) (bs bc topic : List ℕ) (windows : ℕ) (fine : lentOf b bs
         ))
         (λ there. (request asked, request-meant there, append-nil asked))
 
-    -- the request is taken, and it wants what is lacking
+    -- the request is taken, and it wants what is lacking, whatever the reader's mode
     pub request-taken : ((d : Dialect) → acceptOf d (askBytes a «as» (advertiseBytes b bc topic windows)) ≡ Fine)
-        × (wanted (askBytes a «as» (advertiseBytes b bc topic windows)) ≡ lacking (gatewayIn a «as» ac)
+        × ((mode : Mode) → wanted mode (askBytes a «as» (advertiseBytes b bc topic windows))
+        ≡ lacking (gatewayIn a «as» ac)
         (toldOf topic windows (gatewayIn b bs bc)))
     request-taken = (
       λ d. taken (request-rpc .1 d),
-      wanted-once (request-rpc .1 (spoken V11) .means) ∙ ap once (request-rpc .2) ∙ once-same asked asked-once,
+      λ mode. wanted-once (request-rpc .1 (spoken mode V11) .means) ∙ ap once (request-rpc .2)
+          ∙ once-same asked asked-once,
     )
 
     -- ---- node b has every message that is asked for
-    pub reply-has : cachedOf (b .cache) bc (remaining (askBytes a «as» (advertiseBytes b bc topic windows)) [])
+    pub reply-has : cachedOf (b .cache) bc (remaining (modeOf (b .cache .flags))
+        (askBytes a «as» (advertiseBytes b bc topic windows)) [])
         ≡ having (gatewayIn b bs bc) (lacking (gatewayIn a «as» ac) (toldOf topic windows (gatewayIn b bs bc)))
     reply-has =
         ap (cachedOf (b .cache) bc)
-        (all-remain (askBytes a «as» (advertiseBytes b bc topic windows)) ∙ request-taken .1)
+        (all-remain (modeOf (b .cache .flags)) (askBytes a «as» (advertiseBytes b bc topic windows))
+        ∙ request-taken .1 (modeOf (b .cache .flags)))
         ∙ cached-gateway b bs bc asked
 
     pub reply-all : length
         (having (gatewayIn b bs bc) (lacking (gatewayIn a «as» ac) (toldOf topic windows (gatewayIn b bs bc))))
         ≡ length (lacking (gatewayIn a «as» ac) (toldOf topic windows (gatewayIn b bs bc)))
     reply-all = having-all (gatewayIn b bs bc) asked
-        (λ i h. told-held topic windows (gatewayIn b bs bc .cache) i (lacks-exactly i .0 h .0))
+        (λ i h. told-held (modeOf (gatewayIn b bs bc .flags)) topic windows (gatewayIn b bs bc .cache) i
+        (lacks-exactly i .0 h .0))

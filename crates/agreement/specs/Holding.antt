@@ -10,6 +10,7 @@ use native.Mathlib.Nat.{zero-lt-suc}
 use lib.ListN.{length, getD, length-append}
 use lib.Dec.{leb, ltb, eqb}
 use borrow.Author.Tests.{leb-true}
+use Rattle.basis.specs.Dialect.{modeOf}
 use Rattle.basis.specs.declared.Edition.{Edition}
 use Rattle.basis.specs.Cases.{either, clash, both}
 use Rattle.basis.specs.Bytes.{Bytes}
@@ -123,7 +124,7 @@ module _ {set : List (List ℕ)} {x : Settings} {first past : ℕ} {got : List (
     -- it is new exactly where it is not among those got
     pub holds-new : isNew at m id g ≡ not (among m got)
     unfolding isNew
-    holds-new = rw (rows-live at lasting (h .rows), rows-held ms m id inside own (h .from-set) (h .rows) .0)
+    holds-new = rw (h .flags, rows-live at lasting (h .rows), rows-held ms m id inside own (h .from-set) (h .rows) .0)
 
     holds-again : among m got ≡ true → Holds set x first past got (afterAdmit at m id g)
     unfolding afterAdmit
@@ -141,7 +142,12 @@ module _ {set : List (List ℕ)} {x : Settings} {first past : ℕ} {got : List (
           set-cached = h .set-cached;
           each-once = h .each-once;
           from-set = h .from-set;
-          rows = rw (n, v, insert-held (g .max-seen) (formOf m id) at (g .ttl) (g .seen) k) (h .rows);
+          rows = rw (
+            n,
+            v,
+            h .flags,
+            insert-held (g .max-seen) (formOf (modeOf (x .flags)) m id) at (g .ttl) (g .seen) k,
+          ) (h .rows);
         }
 
     holds-more : among m got ≡ false → Holds set x first past (got ++ (m ∷ [])) (afterAdmit at m id g)
@@ -167,7 +173,8 @@ module _ {set : List (List ℕ)} {x : Settings} {first past : ℕ} {got : List (
               rw (
                 n,
                 v,
-                insert-room (g .max-seen) (formOf m id) at (g .ttl) (g .seen) (a .0 ∙ t)
+                h .flags,
+                insert-room (g .max-seen) (formOf (modeOf (x .flags)) m id) at (g .ttl) (g .seen) (a .0 ∙ t)
                     (omega (arith, h .max-seen, h .set-seen, l .0)),
                 room-keeps-all (g .max-messages) id m (g .cache) (a .1 ∙ t)
                     (omega (arith, h .max-messages, h .set-cached, l .1)),
@@ -310,7 +317,8 @@ stored-bytes c st m id h g = either (ltb (indexIn c id) (c .count)) (λ t. simp 
 admit-bytes : (n : Node) (ss cs : List ℕ) (at : ℕ) (m id : List ℕ) → Bytes cs → Bytes m
     → Bytes (admitCache n ss cs at (taken m id))
 admit-bytes n ss cs at m id h g =
-    either (heldAt n ss at (formOf m id)) (λ t. simp t h) (λ t. simp t (stored-bytes (n .cache) cs m id h g))
+    either (heldAt n ss at (formOf (modeOf (n .cache .flags)) m id)) (λ t. simp t h)
+    (λ t. simp t (stored-bytes (n .cache) cs m id h g))
 
 module _ {set : List (List ℕ)} {x : Settings} {first past : ℕ} {got : List (List ℕ)} {s : State} (ed : Edition)
     (body : List ℕ) (i : ℕ) (word : Bool) (at : ℕ) {rs : List ℕ} {left : ℕ}
@@ -337,11 +345,12 @@ module _ {set : List (List ℕ)} {x : Settings} {first past : ℕ} {got : List (
     admit-takes = brought-plan s (x .flags) (h .held .flags) ed body i word at m id e own (h .kept .fine) admit-forward
 
     -- and is seen exactly where it is among those got
-    admit-held : heldAt (s .node) (s .ids) at (formOf m id) ≡ among m got
+    admit-held : heldAt (s .node) (s .ids) at (formOf (modeOf (s .node .cache .flags)) m id) ≡ among m got
     admit-held =
         let a = holds-new (h .held) at (admit-reads .lasting) ms (admit-reads .later) m id inside own in
         let b = is-new (s .node) (s .ids) (s .messages) (h .kept .fine) at m id in
-        sym (Bool·not-not (heldAt (s .node) (s .ids) at (formOf m id))) ∙ ap not (sym b ∙ a)
+        sym (Bool·not-not (heldAt (s .node) (s .ids) at (formOf (modeOf (s .node .cache .flags)) m id)))
+        ∙ ap not (sym b ∙ a)
         ∙ Bool·not-not (among m got)
 
     -- ---- a message of the set that comes in is answered duplicate where it was got before, and else new

@@ -6,13 +6,15 @@ use mathlib.Core.List.{List, [], _∷_, List·Memᴰ, List·Memᴰ·not-nil, Lis
 use mathlib.Core.List.{List·Memᴰ·tail}
 use mathlib.Core.Logic.{⊎-elim}
 use lib.ListN.{length}
+use Rattle.basis.specs.declared.Mode.{Mode}
+use Rattle.basis.specs.Dialect.{modeOf}
 use Rattle.basis.specs.Cases.{either, clash}
 use Rattle.rows.specs.Ids.{sameBytes, among}
 use Rattle.rows.specs.IdsLaws.{same-self, same-equal}
 use Rattle.admission.specs.Admission.{givesId, topicsOf}
 use Rattle.admission.specs.AdmissionLaws.{one-id}
 use Rattle.seen.specs.Entries.{Entry}
-use Rattle.mcache.specs.Messages.{Cached, topics, held}
+use Rattle.mcache.specs.Messages.{Cached, topics, held, gossipIds}
 use Rattle.mcache.specs.GossipLaws.{in-among}
 use Rattle.node.specs.Gateway.{Gateway, knows, advertisement}
 use Rattle.node.specs.Calls.{toldIn, bytesFor, advertiseBytes, maxRpcSize}
@@ -62,19 +64,20 @@ rows-entry m (row {m = k} {c} {ms} x rs) h =
     record { entry = r .entry; there = List·Memᴰ·tail (r .there); message = r .message; own = r .own })
 
 -- ---- where nothing is missing, what carries the topic is held
-pub none-missing : (topic : List ℕ) (g : Gateway) (cs : List Cached) (c : Cached) → missing topic g cs ≡ []
-    → List·Memᴰ c cs → List·Memᴰ topic (topics c) → knows g (c .id) ≡ true
+pub none-missing : (mode : Mode) (topic : List ℕ) (g : Gateway) (cs : List Cached) (c : Cached)
+    → missing mode topic g cs ≡ []
+    → List·Memᴰ c cs → List·Memᴰ topic (topics mode c) → knows g (c .id) ≡ true
 unfolding missing
-none-missing topic g [] c e d t = absurd (List·Memᴰ·not-nil d)
-none-missing topic g (k ∷ cs) c e d t =
-    either (among topic (topics k) && not (knows g (k .id)))
+none-missing mode topic g [] c e d t = absurd (List·Memᴰ·not-nil d)
+none-missing mode topic g (k ∷ cs) c e d t =
+    either (among topic (topics mode k) && not (knows g (k .id)))
     (λ u. clash (let z = simp u at e in cc))
     (λ u.
     ⊎-elim
     (λ (q : c ≡ k).
-    let w : among topic (topics k) ≡ true = rw (← q) (in-among topic (topics c) t) in
+    let w : among topic (topics mode k) ≡ true = rw (← q) (in-among topic (topics mode c) t) in
     rw q (either (knows g (k .id)) (λ v. v) (λ v. clash (let z = simp (w, v) at u in cc))))
-    (λ r. none-missing topic g cs c (simp u at e) r t)
+    (λ r. none-missing mode topic g cs c (simp u at e) r t)
     (List·Memᴰ·cases-cons d))
 
 module _ {flags : ℕ} {set : List (List ℕ)} (ms : MessageSet flags set) where
@@ -83,11 +86,14 @@ module _ {flags : ℕ} {set : List (List ℕ)} (ms : MessageSet flags set) where
       {gotA gotB : List (List ℕ)} {a b : State}
       → Holding set x firstA pastA rsA leftA gotA a → Holding set y firstB pastB rsB leftB gotB b
       → x .flags ≡ flags → y .flags ≡ flags → (topic i : List ℕ) → lacked topic b a ≡ []
-      → Carried i topic (gatewayOf a .cache) → Carried i topic (gatewayOf b .cache)
+      → Carried (modeOf flags) i topic (gatewayOf a .cache) → Carried (modeOf flags) i topic (gatewayOf b .cache)
   carried-over {gotA} {gotB} {a} {b} ha hb ea eb topic i z c =
       let k = rows-kept (c .entry) (rows-under ea (ha .held .rows)) (c .cached) in
       let inside = ha .held .from-set (c .entry .message) (k .was-got) in
-      let s = none-missing topic (gatewayOf b) (gatewayOf a .cache) (c .entry) z (c .cached) (c .carries) in
+      let n = subst (λ (f : ℕ). missing (modeOf f) topic (gatewayOf b) (gatewayOf a .cache) ≡ []) (ha .held .flags ∙ ea)
+      z in
+      let s = none-missing (modeOf flags) topic (gatewayOf b) (gatewayOf a .cache) (c .entry) n (c .cached)
+      (c .carries) in
       let g : among (c .entry .message) gotB ≡ true =
       sym (rows-known ms (c .entry .message) (c .entry .id) inside (k .own) (gatewayOf b) (hb .held .flags ∙ eb)
       (hb .held .from-set) (rows-under eb (hb .held .rows)))
@@ -97,7 +103,7 @@ module _ {flags : ℕ} {set : List (List ℕ)} (ms : MessageSet flags set) where
         entry = r .entry;
         cached = r .there;
         named = one-id flags (c .entry .message) (r .entry .id) (c .entry .id) (r .own) (k .own) ∙ c .named;
-        carries = subst (λ (m : List ℕ). List·Memᴰ topic (topicsOf m)) (sym (r .message)) (c .carries);
+        carries = subst (λ (m : List ℕ). List·Memᴰ topic (topicsOf (modeOf flags) m)) (sym (r .message)) (c .carries);
       }
 
   -- ---- two gateways that lack nothing of each other
@@ -110,9 +116,11 @@ module _ {flags : ℕ} {set : List (List ℕ)} (ms : MessageSet flags set) where
     same-told : toldIn (a .node) (a .messages) topic windows ≡ toldIn (b .node) (b .messages) topic windows2
     same-told =
         told-gateway (a .node) (a .ids) (a .messages) topic windows (fine ha topic windows wide)
-        ∙ told-carried topic windows windows2 (gatewayOf a .cache) (gatewayOf b .cache)
+        ∙ ap (λ (f : ℕ). gossipIds (modeOf f) topic windows (gatewayOf a .cache)) (ha .held .flags ∙ ea)
+        ∙ told-carried (modeOf flags) topic windows windows2 (gatewayOf a .cache) (gatewayOf b .cache)
         (all-recent ha topic windows wide) (all-recent hb topic windows2 wide2)
         (λ i. (carried-over ha hb ea eb topic i done-b, carried-over hb ha eb ea topic i done-a))
+        ∙ sym (ap (λ (f : ℕ). gossipIds (modeOf f) topic windows2 (gatewayOf b .cache)) (hb .held .flags ∙ eb))
         ∙ sym (told-gateway (b .node) (b .ids) (b .messages) topic windows2 (fine hb topic windows2 wide2))
 
     pub same-bytes : advertiseBytes (a .node) (a .messages) topic windows ≡ advertiseBytes (b .node)

@@ -9,6 +9,8 @@ use mathlib.Core.Logic.{⊎-elim}
 use native.Mathlib.Omega.{arith}
 use lib.ListN.{length, length-map}
 use borrow.Author.Tests.{lt-ltb}
+use Rattle.basis.specs.declared.Mode.{Mode}
+use Rattle.basis.specs.Dialect.{modeOf}
 use Rattle.basis.specs.Cases.{either, clash}
 use Rattle.rows.specs.Ids.{sameBytes, among, distinct}
 use Rattle.rows.specs.IdsLaws.{same-self, same-equal, all-few}
@@ -58,55 +60,55 @@ rows-get i (row {m} {e} {c} {ms} {es} {cs} x rs) h =
     (λ t. simp t (got-more m ms (rows-get i rs (simp t at h))))
 
 -- ---- the messages that are missing: none of them is held
-missing-not-held : (topic i : List ℕ) (g : Gateway) (cs : List Cached) → knows g i ≡ true
-    → among i (idsOf (missing topic g cs)) ≡ false
+missing-not-held : (mode : Mode) (topic i : List ℕ) (g : Gateway) (cs : List Cached) → knows g i ≡ true
+    → among i (idsOf (missing mode topic g cs)) ≡ false
 unfolding missing among
-missing-not-held topic i g [] h = refl
-missing-not-held topic i g (c ∷ cs) h =
-    let r = missing-not-held topic i g cs h in
+missing-not-held mode topic i g [] h = refl
+missing-not-held mode topic i g (c ∷ cs) h =
+    let r = missing-not-held mode topic i g cs h in
     either (sameBytes (c .id) i)
     (λ u. let z : knows g (c .id) ≡ true = rw (same-equal (c .id) i u) h in
-    either (among topic (topics c)) (λ t. simp (t, z) r) (λ t. simp t r))
-    (λ u. either (among topic (topics c) && not (knows g (c .id))) (λ t. simp (t, u) r)
+    either (among topic (topics mode c)) (λ t. simp (t, z) r) (λ t. simp t r))
+    (λ u. either (among topic (topics mode c) && not (knows g (c .id))) (λ t. simp (t, u) r)
     (λ t. simp t r))
 
 -- those that carry the topic and are not held are missing
-missing-among : (topic i : List ℕ) (g : Gateway) (windows : ℕ) (cs : List Cached)
+missing-among : (mode : Mode) (topic i : List ℕ) (g : Gateway) (windows : ℕ) (cs : List Cached)
     → ((c : Cached) → List·Memᴰ c cs → c .window < windows)
-    → knows g i ≡ false → among i (idsOf (carrying topic windows cs)) ≡ among i
-    (idsOf (missing topic g cs))
+    → knows g i ≡ false → among i (idsOf (carrying mode topic windows cs)) ≡ among i
+    (idsOf (missing mode topic g cs))
 unfolding carrying missing among
-missing-among topic i g windows [] young h = refl
-missing-among topic i g windows (c ∷ cs) young h =
-    let r = missing-among topic i g windows cs (λ k d. young k (List·Memᴰ·tail d)) h in
+missing-among mode topic i g windows [] young h = refl
+missing-among mode topic i g windows (c ∷ cs) young h =
+    let r = missing-among mode topic i g windows cs (λ k d. young k (List·Memᴰ·tail d)) h in
     let w = lt-ltb (c .window) windows (young c (List·Memᴰ·head refl)) in
-    either (among topic (topics c))
+    either (among topic (topics mode c))
     (λ t. either (sameBytes (c .id) i)
     (λ u. let z : knows g (c .id) ≡ false = rw (same-equal (c .id) i u) h in simp (w, t, u, z))
     (λ u. either (knows g (c .id)) (λ v. simp (w, t, u, v) r) (λ v. simp (w, t, u, v) r)))
     (λ t. simp (w, t) r)
 
 -- their ids are some of those cached, and so differ where those do
-missing-held : (topic i : List ℕ) (g : Gateway) (cs : List Cached) → among i (idsOf cs) ≡ false
-    → among i (idsOf (missing topic g cs)) ≡ false
+missing-held : (mode : Mode) (topic i : List ℕ) (g : Gateway) (cs : List Cached) → among i (idsOf cs) ≡ false
+    → among i (idsOf (missing mode topic g cs)) ≡ false
 unfolding missing among
-missing-held topic i g [] h = refl
-missing-held topic i g (c ∷ cs) h =
+missing-held mode topic i g [] h = refl
+missing-held mode topic i g (c ∷ cs) h =
     either (sameBytes (c .id) i) (λ u. clash (let z = simp u at h in cc))
     (λ u.
-    let r = missing-held topic i g cs (simp u at h) in
-    either (among topic (topics c) && not (knows g (c .id))) (λ t. simp (t, u) r) (λ t. simp t r))
+    let r = missing-held mode topic i g cs (simp u at h) in
+    either (among topic (topics mode c) && not (knows g (c .id))) (λ t. simp (t, u) r) (λ t. simp t r))
 
-missing-distinct : (topic : List ℕ) (g : Gateway) (cs : List Cached) → distinct (idsOf cs) ≡ true
-    → distinct (idsOf (missing topic g cs)) ≡ true
+missing-distinct : (mode : Mode) (topic : List ℕ) (g : Gateway) (cs : List Cached) → distinct (idsOf cs) ≡ true
+    → distinct (idsOf (missing mode topic g cs)) ≡ true
 unfolding missing distinct
-missing-distinct topic g [] d = refl
-missing-distinct topic g (c ∷ cs) d =
+missing-distinct mode topic g [] d = refl
+missing-distinct mode topic g (c ∷ cs) d =
     either (among (c .id) (idsOf cs)) (λ u. clash (let z = simp u at d in cc))
     (λ u.
-    let r = missing-distinct topic g cs (simp u at d) in
-    let n = missing-held topic (c .id) g cs u in
-    either (among topic (topics c) && not (knows g (c .id))) (λ t. simp (t, n) r) (λ t. simp t r))
+    let r = missing-distinct mode topic g cs (simp u at d) in
+    let n = missing-held mode topic (c .id) g cs u in
+    either (among topic (topics mode c) && not (knows g (c .id))) (λ t. simp (t, n) r) (λ t. simp t r))
 
 -- ---- what is asked for
 module _ {set : List (List ℕ)} {y : Settings} {first past left : ℕ} {rs : List ℕ} {got : List (List ℕ)} {b : State}
@@ -130,7 +132,8 @@ module _ {set : List (List ℕ)} {y : Settings} {first past left : ℕ} {rs : Li
   -- of each id told, b has the message
   pub told-got : (i : List ℕ) → among i (toldOf topic windows (gatewayOf b)) ≡ true
       → Got (y .flags) i (get i (gatewayOf b .cache)) got
-  told-got i t = rows-get i (h .held .rows) (told-held topic windows (gatewayOf b .cache) i t)
+  told-got i t = rows-get i (h .held .rows) (told-held (modeOf (gatewayOf b .flags)) topic windows
+      (gatewayOf b .cache) i t)
 
   module _ (a : State) where
     abbrev wants : List (List ℕ)
@@ -143,19 +146,23 @@ module _ {set : List (List ℕ)} {y : Settings} {first past left : ℕ} {rs : Li
     wants-exactly i =
         asked-exactly (gatewayOf a) i told
         ∙ either (knows (gatewayOf a) i)
-        (λ t. simp t (and-false (among i told) ∙ sym (missing-not-held topic i (gatewayOf a) (gatewayOf b .cache) t)))
-        (λ t. simp t (and-true (among i told) ∙ among-order i (idsOf (carrying topic windows (gatewayOf b .cache)))
-        ∙ missing-among topic i (gatewayOf a) windows (gatewayOf b .cache) all-recent t))
+        (λ t. simp t (and-false (among i told) ∙ sym
+        (missing-not-held (modeOf (gatewayOf b .flags)) topic i (gatewayOf a) (gatewayOf b .cache) t)))
+        (λ t. simp t (and-true (among i told) ∙ among-order i
+        (idsOf (carrying (modeOf (gatewayOf b .flags)) topic windows (gatewayOf b .cache)))
+        ∙ missing-among (modeOf (gatewayOf b .flags)) topic i (gatewayOf a) windows (gatewayOf b .cache) all-recent t))
 
     pub wants-once : distinct (lacking (gatewayOf a) (toldOf topic windows (gatewayOf b))) ≡ true
-    wants-once = lacking-distinct (gatewayOf a) told (told-distinct topic windows (gatewayOf b .cache))
+    wants-once = lacking-distinct (gatewayOf a) told
+        (told-distinct (modeOf (gatewayOf b .flags)) topic windows (gatewayOf b .cache))
 
     -- as many as a lacks
     pub wants-count : length (lacking (gatewayOf a) (toldOf topic windows (gatewayOf b))) ≡ length (lacked topic a b)
     wants-count =
         let l = idsOf (lacked topic a b) in
         let m = all-few l wants wants-once (λ i t. sym (wants-exactly i) ∙ t) in
-        let n = all-few wants l (missing-distinct topic (gatewayOf a) (gatewayOf b .cache) cached-distinct)
+        let n = all-few wants l (missing-distinct (modeOf (gatewayOf b .flags)) topic (gatewayOf a)
+        (gatewayOf b .cache) cached-distinct)
         (λ i t. wants-exactly i ∙ t) in
         let k = length-map (lacked topic a b) (λ (c : Cached). c .id) in
         omega arith

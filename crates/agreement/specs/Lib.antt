@@ -1,7 +1,8 @@
 -- To be believed: Premises, Round; and history's definitions.
--- Theorems: Once, Request, CatchUp, Identical, Agree; that the premises can be met, Example, ExampleRound and
--- ExampleUnsigned; that they are needed, Needed.
--- On the way to them: Rows, Holding, Forward, Sorted, Fifteen, HandOver, Delivered, Lacking, Played, Arrive, Script.
+-- Theorems: Once, Request, CatchUp, Identical, Agree; that the premises can be met, Example, ExampleRound,
+-- ExampleUnsigned and ExampleGroups; that they are needed, Needed.
+-- On the way to them: Rows, Holding, Forward, Sorted, Fifteen, HandOver, Delivered, Lacking, Played, Arrive, Script,
+-- Pair.
 pub mod Premises
 pub mod Rows
 pub mod Round
@@ -22,5 +23,7 @@ pub mod Agree
 pub mod Script
 pub mod Example
 pub mod ExampleRound
+pub mod Pair
 pub mod ExampleUnsigned
+pub mod ExampleGroups
 pub mod Needed

@@ -9,15 +9,20 @@ use mathlib.Core.List.{List, [], _∷_, _++_}
 use native.Mathlib.Omega.{arith}
 use lib.ListN.{length, getD, replicate, length-replicate, getD-replicate}
 use borrow.Author.Tests.{lt-ltb, le-ltb, lt-leb}
+use Rattle.basis.specs.declared.Mode.{Mode}
+use Rattle.basis.specs.declared.Mode.the-variants.{Plain, Groups}
 use Rattle.basis.specs.declared.Edition.{Edition}
 use Rattle.basis.specs.declared.Edition.the-variants.{V11, V12}
-use Rattle.basis.specs.Dialect.{spoken}
+use Rattle.basis.specs.Dialect.{modeOf, spoken}
 use Rattle.basis.specs.Cases.{either}
 use Rattle.basis.specs.Writing.{answer}
 use Rattle.peer_id.specs.Uvarint.{uvarint, bytesOf, readUvarint, readFrom, groupOf}
 use Rattle.peer_id.specs.PeerId.{hashOf, fromBytes}
 use Rattle.key.specs.Decode.{typeOf, onTotal, onData, decodeProtobuf}
-use Rattle.protobuf.specs.Field.{readTag, readLen, readVarint, skipFixed, skipField, readValue, readField}
+use Rattle.protobuf.specs.declared.WireError.the-variants.{UnsupportedWireType}
+use Rattle.protobuf.specs.Refusal.{standing}
+use Rattle.protobuf.specs.Field.{readTag, readLen, readVarint, skipFixed, skipValue, passed, skipFrom, skipGroup}
+use Rattle.protobuf.specs.Field.{skipField, readValue, readField}
 use Rattle.protobuf.specs.Walk.{walkFrom, walkAt, between}
 use Rattle.protobuf.specs.Encode.{tag, bytesField}
 use Rattle.protobuf.specs.declared.Checked.the-variants as checked
@@ -27,6 +32,8 @@ use Rattle.schema.specs.Kinds.{toDepth, overKinds}
 use Rattle.schema.specs.Count.{textCount, counted}
 use Rattle.schema.specs.Slots.{setPlace, withField, slotsOf}
 use Rattle.ids.specs.declared.MessageAt.the-variants as found
+use Rattle.schema.specs.declared.Kind.the-variants as kind
+use Rattle.schema.specs.Spots.{spotIn}
 use Rattle.schema.specs.Accept.{bodyRecords, acceptOf}
 use Rattle.ids.specs.Ids.{messageAt, idParts}
 use Rattle.admission.specs.declared.Unfit.{Unfit}
@@ -64,7 +71,7 @@ use Rattle.history.specs.History.{State, gatewayOf, Settings, Fresh, Call, admi
 use Rattle.history.specs.History.{explain, planIn, after, afterAll, refusalAt, brought, brings, isNew as newAnswer, times}
 use Rattle.history.specs.History.{timesNew, servedBytes, servedMessages, admits}
 use Rattle.history.specs.Laws.{after-append, startedBy, history-keeps, fresh-starts, refused-stays, after-flags}
-use Rattle.history.specs.Laws.{history-flags, brings-exactly}
+use Rattle.history.specs.Laws.{history-flags, brings-exactly, fresh-keeps, fresh-flags}
 use Rattle.agreement.specs.Round.{missing, lacked, Play, onward, Fair, fair-onward, advertOf, requestOf, replyOf}
 use Rattle.agreement.specs.Round.{servedCount, askerRound, tellerRound, askerRounds, tellerRounds}
 use Rattle.agreement.specs.Holding.{Holding, holding-fresh}
@@ -75,8 +82,9 @@ use Rattle.agreement.specs.Example.{signature, first-sender, second-id, 
 use Rattle.agreement.specs.Example.{calls-b, play, fair-for}
 use Rattle.agreement.specs.ExampleRound.{a-lacks-the-second, request-bytes}
 use Rattle.agreement.specs.ExampleRound.{at-a as lacking-a, at-b as holding-it}
-use Rattle.agreement.specs.ExampleUnsigned.{unsigned, idOf, unsignedBody, messages, at-a, gateway-a, a-is}
-use Rattle.agreement.specs.ExampleUnsigned.{holding-a, settings-a as open-settings}
+use Rattle.agreement.specs.Pair.{atA, gatewayA, a-is, holding-a}
+use Rattle.agreement.specs.ExampleUnsigned.{unsigned, idOf, unsignedBody, two as unsigned-two}
+use Rattle.agreement.specs.ExampleGroups.{grouped, grouped-body, turned as grouped-alone}
 
 -- ---- small messages: a sender, a seqno, the topic `t`, a signature
 abbrev pub topic : List ℕ
@@ -194,7 +202,8 @@ module _ (flags : ℕ) (m : List ℕ) (why : Unfit) (u : admissionOf flags m tru
       let q = p .2 in
       let e : admissionOf (s .node .cache .flags) m word ≡ admission.Unfit why =
       ap (λ (f : ℕ). admissionOf f m word) same ∙ vouched-same flags m word (p .0) ∙ u in
-      rw (p .1, q .found, q .bytes, e)
+      let k : modeOf (s .node .cache .flags) ≡ modeOf flags = ap modeOf same in
+      rw (k, p .1, k, q .found, q .bytes, e)
 
   not-new : (s : State) (at : ℕ) (l : Lent) → newAnswer (admitAnswer (s .node) (s .ids) at
       (onLent (λ (f : Fault). no (answered.Faulty f)) l (no (answered.Unfit why)))) ≡ 0
@@ -276,54 +285,119 @@ needs-peer-id flags =
     unanswered flags stranger strangerBody NotPeerId (stranger-unfit flags) (stranger-brought flags)
 
 -- ---- both nodes set alike
--- the teller allows unsigned messages and holds one; the asker, a fresh gateway, does not allow them. It lacks the
--- message, asks for it and is served it; the admit is refused by 25 and leaves it as it was. So it lacks it after any
--- number of rounds.
-pub record NeverArrives (p : Play) (m id : List ℕ) (a b : State) : Type 0 where
-  pub off : allowsUnsigned (gatewayOf a .flags) ≡ false
-  pub on : allowsUnsigned (gatewayOf b .flags) ≡ true
+-- A gateway lacks a message that another holds, asks for it and is served it; the admit is refused by this number and
+-- leaves it as it was. So it lacks the message after any number of rounds.
+pub record NeverArrives (p : Play) (number : ℕ) (m id : List ℕ) (a b : State) : Type 0 where
   pub asks : lacking (gatewayOf a) (toldOf (p .topic) (p .windows) (gatewayOf b)) ≡ id ∷ []
   pub served : replyOf p a b ≡ bytesField 2 m
-  pub refused : (ed : Edition) (at : ℕ) → refusalAt a (admit ed (replyOf p a b) 0 true at) ≡ 25
+  pub refused : (ed : Edition) (at : ℕ) → refusalAt a (admit ed (replyOf p a b) 0 true at) ≡ number
   pub stays : (r : ℕ) (at : ℕ → ℕ → ℕ) → afterAll (askerRounds p r at a b) a ≡ a
   pub lacks : (r : ℕ) (at : ℕ → ℕ → ℕ)
       → lacked (p .topic) (afterAll (askerRounds p r at a b) a) (afterAll (tellerRounds p r at a b) b)
       ≡ record { id = id; message = m; window = 0 } ∷ []
 
--- the asker is as the first gateway of the example, the teller as that of the example with unsigned messages
+-- the asker is as the first gateway of the example, fresh, with flags 0
 abbrev asker : State
 asker = start settings-a
 
 asker-is : gatewayOf asker ≡ startedBy settings-a
 asker-is = fresh-starts fresh-a
 
-holding-asker : Holding messages settings-a 0 0 [] 0 [] asker
-unfolding risesFrom
-holding-asker = holding-fresh [] 0 fresh-a (omega arith) (omega arith)
-    (record { rises = refl; within-ttl = λ i h. absurd (omega arith); below-last = λ i h. absurd (omega arith) })
-    (omega arith)
+-- the teller holds a message alone, which the asker refuses by a number
+module _ {set : List (List ℕ)} {y : Settings} {first past left : ℕ} {rs : List ℕ} {got : List (List ℕ)} {b : State}
+    (hb : Holding set y first past rs left got b) (few : length set ≤ 2) (wide : y .history-len ≤ 3) {g : Gateway}
+    (b-is : gatewayOf b ≡ g) (m id : List ℕ) (wants : lacking (startedBy settings-a) (toldOf topic 3 g) ≡ id ∷ [])
+    (has : having g (id ∷ []) ≡ m ∷ [])
+    (misses : missing (modeOf (g .flags)) topic (startedBy settings-a) (g .cache)
+    ≡ record { id = id; message = m; window = 0 } ∷ []) (number : ℕ) (some : 0 < number)
+    (refuses : (ed : Edition) (at : ℕ) → refusalAt asker (admit ed (bytesField 2 m) 0 true at) ≡ number) where
+  holding-asker : Holding set settings-a 0 0 [] 0 [] asker
+  unfolding risesFrom
+  holding-asker = holding-fresh [] 0 fresh-a few few
+      (record { rises = refl; within-ttl = λ i h. absurd (omega arith); below-last = λ i h. absurd (omega arith) })
+      (omega arith)
 
-asker-wants : lacking (startedBy settings-a) (toldOf topic 3 gateway-a) ≡ idOf 1 ∷ []
-unfolding gateway-a started isNew afterAdmit live inserted newest until held put unsigned isSigned slotsOf withField
+  mixed-fair : Fair play settings-a y
+  mixed-fair = fair-for settings-a y (omega arith) wide
+
+  asker-lacks : lacked topic asker b ≡ record { id = id; message = m; window = 0 } ∷ []
+  asker-lacks = ap₂ (λ (a h : Gateway). missing (modeOf (h .flags)) topic a (h .cache)) asker-is b-is ∙ misses
+
+  has-it : having (gatewayOf b) (id ∷ []) ≡ m ∷ []
+  has-it = ap (λ (h : Gateway). having h (id ∷ [])) b-is ∙ has
+
+  -- rounds with such buffers
+  module _ (p : Play) (fair : Fair p settings-a y) (t : p .topic ≡ topic) (w : p .windows ≡ 3) where
+    asked-for : lacking (gatewayOf asker) (toldOf (p .topic) (p .windows) (gatewayOf b)) ≡ id ∷ []
+    asked-for = rw (t, w, asker-is, b-is) wants
+
+    one-stays : (at : ℕ → ℕ) → afterAll (askerRound p at asker b) asker ≡ asker
+    unfolding afterAll after
+    one-stays at =
+        ap (λ (cs : List Call). afterAll cs asker) (one-round holding-asker hb p fair m id asked-for has-it at)
+        ∙ refused-stays (admit (p .admit-edition 0 0) (bytesField 2 m) 0 true (at 0)) asker
+        (λ z. let y = refuses (p .admit-edition 0 0) (at 0) in absurd (omega arith))
+
+  told-stays : (p : Play) → afterAll (tellerRound p asker b) b ≡ b
+  unfolding tellerRound afterAll after
+  told-stays p = refl
+
+  all-stay : (r : ℕ) (p : Play) → Fair p settings-a y → p .topic ≡ topic → p .windows ≡ 3
+      → (at : ℕ → ℕ → ℕ) → afterAll (askerRounds p r at asker b) asker ≡ asker
+  unfolding askerRounds afterAll
+  all-stay zero p fair t w at = refl
+  all-stay (suc r) p fair t w at =
+      let c = askerRound p (at 0) asker b in
+      let u = afterAll (tellerRound p asker b) b in
+      let next : State → State → List Call = λ s o. askerRounds (onward p) r (λ k. at (suc k)) s o in
+      after-append c (next (afterAll c asker) u) asker
+      ∙ ap₂ (λ (s o : State). afterAll (next s o) s) (one-stays p fair t w (at 0)) (told-stays p)
+      ∙ all-stay r (onward p) (fair-onward fair) t w (λ k. at (suc k))
+
+  ever-stays : (r : ℕ) (at : ℕ → ℕ → ℕ) → afterAll (askerRounds play r at asker b) asker ≡ asker
+  ever-stays r at = all-stay r play mixed-fair refl refl at
+
+  served-it : replyOf play asker b ≡ bytesField 2 m
+  served-it = one-replied holding-asker hb play mixed-fair m id (asked-for play mixed-fair refl refl) has-it
+
+  never-arrives : NeverArrives play number m id asker b
+  never-arrives =
+      record {
+        asks = asked-for play mixed-fair refl refl;
+        served = served-it;
+        refused = λ ed at.
+            ap (λ (body : List ℕ). refusalAt asker (admit ed body 0 true at)) served-it ∙ refuses ed at;
+        stays = ever-stays;
+        lacks = λ r at.
+            ap₂ (λ (s o : State). lacked topic s o) (ever-stays r at) (teller-stays play r at asker b) ∙ asker-lacks;
+      }
+
+-- ---- unsigned messages are allowed by both or by neither
+-- the teller allows unsigned messages and holds one, and the asker does not allow them: 25
+abbrev teller : State
+teller = atA 1 false (unsignedBody 1)
+
+abbrev teller-gateway : Gateway
+teller-gateway = gatewayA 1 (unsigned 1) (idOf 1)
+
+asker-wants : lacking (startedBy settings-a) (toldOf topic 3 teller-gateway) ≡ idOf 1 ∷ []
+unfolding gatewayA started isNew afterAdmit live inserted newest until held put unsigned isSigned slotsOf withField
     setPlace roleOf lacking knows allowsUnsigned holds among sameBytes gossipIds inOrder enterId carrying walkAt
     walkFrom readField readValue skipField skipFixed readVarint readLen readTag readUvarint readFrom groupOf topicsOf
 asker-wants = refl
 
-teller-has : having gateway-a (idOf 1 ∷ []) ≡ unsigned 1 ∷ []
-unfolding gateway-a started isNew afterAdmit live inserted newest until held put unsigned isSigned slotsOf withField
+teller-has : having teller-gateway (idOf 1 ∷ []) ≡ unsigned 1 ∷ []
+unfolding gatewayA started isNew afterAdmit live inserted newest until held put unsigned isSigned slotsOf withField
     setPlace roleOf having get holds among sameBytes walkAt walkFrom readField readValue skipField skipFixed readVarint
     readLen readTag readUvarint readFrom groupOf
 teller-has = refl
 
-asker-misses : missing topic (startedBy settings-a) (gateway-a .cache)
+asker-misses : missing (modeOf (teller-gateway .flags)) topic (startedBy settings-a) (teller-gateway .cache)
     ≡ record { id = idOf 1; message = unsigned 1; window = 0 } ∷ []
-unfolding gateway-a started isNew afterAdmit live inserted newest until held put unsigned isSigned slotsOf withField
+unfolding gatewayA started isNew afterAdmit live inserted newest until held put unsigned isSigned slotsOf withField
     setPlace roleOf missing knows allowsUnsigned holds among sameBytes walkAt walkFrom readField readValue skipField
     skipFixed readVarint readLen readTag readUvarint readFrom groupOf topicsOf
 asker-misses = refl
-
-asker-lacks : lacked topic asker at-a ≡ record { id = idOf 1; message = unsigned 1; window = 0 } ∷ []
-asker-lacks = ap₂ (λ (g h : Gateway). missing topic g (h .cache)) asker-is a-is ∙ asker-misses
 
 -- what is served
 body-written : bytesField 2 (unsigned 1) ≡ unsignedBody 1
@@ -344,68 +418,85 @@ asker-refuses ed at =
     ap (λ (body : List ℕ). refusalAt asker (admit ed body 0 true at)) body-written
     ∙ needs-admissible 0 zero-off .refused fresh-a refl [] ed at
 
-mixed-fair : Fair play settings-a open-settings
-mixed-fair = fair-for settings-a open-settings (omega arith) (omega arith)
+pub needs-alike : (allowsUnsigned (gatewayOf asker .flags) ≡ false) × (allowsUnsigned (gatewayOf teller .flags) ≡ true)
+    × NeverArrives play 25 (unsigned 1) (idOf 1) asker teller
+needs-alike = (
+  ap allowsUnsigned (fresh-flags fresh-a) ∙ zero-off,
+  ap allowsUnsigned (holding-a unsigned-two .held .flags) ∙ one-on,
+  never-arrives (holding-a unsigned-two) (omega arith) (omega arith) (a-is unsigned-two) (unsigned 1) (idOf 1)
+      asker-wants teller-has asker-misses 25 (omega arith) asker-refuses,
+)
 
--- rounds with such buffers
-module _ (p : Play) (fair : Fair p settings-a open-settings) (t : p .topic ≡ topic) (w : p .windows ≡ 3) where
-  asked-for : lacking (gatewayOf asker) (toldOf (p .topic) (p .windows) (gatewayOf at-a)) ≡ idOf 1 ∷ []
-  asked-for = rw (t, w, asker-is, a-is) asker-wants
+-- ---- both are in one mode
+-- the teller passes over groups and holds a message with one, and the asker reads in the first mode: 5
+abbrev group-teller : State
+group-teller = atA 2 true grouped-body
 
-  has-it : having (gatewayOf at-a) (idOf 1 ∷ []) ≡ unsigned 1 ∷ []
-  has-it = ap (λ (g : Gateway). having g (idOf 1 ∷ [])) a-is ∙ teller-has
+abbrev group-gateway : Gateway
+group-gateway = gatewayA 2 grouped second-id
 
-  one-stays : (at : ℕ → ℕ) → afterAll (askerRound p at asker at-a) asker ≡ asker
-  unfolding afterAll after
-  one-stays at =
-      ap (λ (cs : List Call). afterAll cs asker)
-      (one-round holding-asker holding-a p fair (unsigned 1) (idOf 1) asked-for has-it at)
-      ∙ refused-stays (admit (p .admit-edition 0 0) (bytesField 2 (unsigned 1)) 0 true (at 0)) asker
-      (λ z. let y = asker-refuses (p .admit-edition 0 0) (at 0) in absurd (omega arith))
+group-wants : lacking (startedBy settings-a) (toldOf topic 3 group-gateway) ≡ second-id ∷ []
+unfolding modeOf gatewayA started isNew afterAdmit live inserted newest until held put signature grouped isSigned
+    slotsOf withField setPlace roleOf lacking knows allowsUnsigned holds among sameBytes gossipIds inOrder enterId
+    carrying walkAt walkFrom readField readValue skipField passed skipGroup skipFrom skipValue skipFixed readVarint
+    readLen readTag readUvarint readFrom groupOf topicsOf
+group-wants = refl
 
-told-stays : (p : Play) → afterAll (tellerRound p asker at-a) at-a ≡ at-a
-unfolding tellerRound afterAll after
-told-stays p = refl
+group-has : having group-gateway (second-id ∷ []) ≡ grouped ∷ []
+unfolding modeOf gatewayA started isNew afterAdmit live inserted newest until held put signature grouped isSigned
+    slotsOf withField setPlace roleOf having get holds among sameBytes walkAt walkFrom readField readValue skipField
+    passed skipGroup skipFrom skipValue skipFixed readVarint readLen readTag readUvarint readFrom groupOf
+group-has = refl
 
-all-stay : (r : ℕ) (p : Play) → Fair p settings-a open-settings → p .topic ≡ topic → p .windows ≡ 3
-    → (at : ℕ → ℕ → ℕ) → afterAll (askerRounds p r at asker at-a) asker ≡ asker
-unfolding askerRounds afterAll
-all-stay zero p fair t w at = refl
-all-stay (suc r) p fair t w at =
-    let c = askerRound p (at 0) asker at-a in
-    let u = afterAll (tellerRound p asker at-a) at-a in
-    let next : State → State → List Call = λ s b. askerRounds (onward p) r (λ k. at (suc k)) s b in
-    after-append c (next (afterAll c asker) u) asker
-    ∙ ap₂ (λ (s b : State). afterAll (next s b) s) (one-stays p fair t w (at 0)) (told-stays p)
-    ∙ all-stay r (onward p) (fair-onward fair) t w (λ k. at (suc k))
+group-misses : missing (modeOf (group-gateway .flags)) topic (startedBy settings-a) (group-gateway .cache)
+    ≡ record { id = second-id; message = grouped; window = 0 } ∷ []
+unfolding modeOf gatewayA started isNew afterAdmit live inserted newest until held put signature grouped isSigned
+    slotsOf withField setPlace roleOf missing knows allowsUnsigned holds among sameBytes walkAt walkFrom readField
+    readValue skipField passed skipGroup skipFrom skipValue skipFixed readVarint readLen readTag readUvarint readFrom
+    groupOf topicsOf
+group-misses = refl
 
-ever-stays : (r : ℕ) (at : ℕ → ℕ → ℕ) → afterAll (askerRounds play r at asker at-a) asker ≡ asker
-ever-stays r at = all-stay r play mixed-fair refl refl at
+group-written : bytesField 2 grouped ≡ grouped-body
+unfolding signature grouped grouped-body bytesField tag uvarint bytesOf
+group-written = refl
 
-served-it : replyOf play asker at-a ≡ bytesField 2 (unsigned 1)
-served-it =
-    one-replied holding-asker holding-a play mixed-fair (unsigned 1) (idOf 1) (asked-for play mixed-fair refl refl)
-    (has-it play mixed-fair refl refl)
+zero-plain : modeOf 0 ≡ Plain
+unfolding modeOf
+zero-plain = refl
 
-pub needs-alike : NeverArrives play (unsigned 1) (idOf 1) asker at-a
-needs-alike =
-    record {
-      off = ap allowsUnsigned (holding-asker .held .flags) ∙ zero-off;
-      on = ap allowsUnsigned (holding-a .held .flags) ∙ one-on;
-      asks = asked-for play mixed-fair refl refl;
-      served = served-it;
-      refused = λ ed at.
-          ap (λ (body : List ℕ). refusalAt asker (admit ed body 0 true at)) served-it ∙ asker-refuses ed at;
-      stays = ever-stays;
-      lacks = λ r at.
-          ap₂ (λ (s b : State). lacked topic s b) (ever-stays r at) (teller-stays play r at asker at-a)
-          ∙ asker-lacks;
-    }
+two-groups : modeOf 2 ≡ Groups
+unfolding modeOf
+two-groups = refl
+
+-- type 3, after the tag at 46 in the message
+plain-refuses : (ed : Edition) → acceptOf (spoken Plain ed) grouped-body
+    ≡ checked.Refused (standing (spotIn Plain (kind.Rpc ed) grouped-body) (UnsupportedWireType 3 47))
+unfolding signature grouped grouped-body acceptOf bodyRecords counted overKinds toDepth textCount roleOf rank ownOf
+    isUtf8 run walkAt walkFrom readField readValue skipField skipValue skipFixed readVarint readLen readTag readUvarint
+    readFrom groupOf
+plain-refuses ed = refl
+
+asker-plain : modeOf (asker .node .cache .flags) ≡ Plain
+unfolding gatewayIn
+asker-plain = ap modeOf (fresh-flags fresh-a) ∙ zero-plain
+
+group-refuses : (ed : Edition) (at : ℕ) → refusalAt asker (admit ed (bytesField 2 grouped) 0 true at) ≡ 5
+unfolding planned
+group-refuses ed at = rw (group-written, fresh-keeps fresh-a .fine, asker-plain, plain-refuses ed)
+
+pub needs-one-mode : (modeOf (gatewayOf asker .flags) ≡ Plain) × (modeOf (gatewayOf group-teller .flags) ≡ Groups)
+    × NeverArrives play 5 grouped second-id asker group-teller
+needs-one-mode = (
+  ap modeOf (fresh-flags fresh-a) ∙ zero-plain,
+  ap modeOf (holding-a grouped-alone .held .flags) ∙ two-groups,
+  never-arrives (holding-a grouped-alone) (omega arith) (omega arith) (a-is grouped-alone) grouped second-id group-wants
+      group-has group-misses 5 (omega arith) group-refuses,
+)
 
 -- ---- two gateways that lack nothing of each other, and tell of different ids
 pub record Apart (windows : ℕ) (a b : Gateway) (tells-a tells-b : List (List ℕ)) : Type 0 where
-  pub a-lacks : missing topic a (b .cache) ≡ []
-  pub b-lacks : missing topic b (a .cache) ≡ []
+  pub a-lacks : missing (modeOf (b .flags)) topic a (b .cache) ≡ []
+  pub b-lacks : missing (modeOf (a .flags)) topic b (a .cache) ≡ []
   pub a-tells : toldOf topic windows a ≡ tells-a
   pub b-tells : toldOf topic windows b ≡ tells-b
 
@@ -429,7 +520,7 @@ needs-few-heartbeats = record { a-lacks = refl; b-lacks = refl; a-tells = refl; 
 
 -- ---- something is lacking, and what is told of does not have it
 pub record Untold (told : List (List ℕ)) (a b : Gateway) : Type 0 where
-  pub lacks : length (missing topic a (b .cache)) ≡ 1
+  pub lacks : length (missing (modeOf (b .flags)) topic a (b .cache)) ≡ 1
   pub asks : lacking a told ≡ []
 
 -- ---- windows at least both history_lens
@@ -498,15 +589,16 @@ unwantedBody = 26 ∷ 43 ∷ 42 ∷ 41 ∷ 10 ∷ 39 ∷ second-id
 abbrev wantedBody : List ℕ
 wantedBody = 26 ∷ 43 ∷ 18 ∷ 41 ∷ 10 ∷ 39 ∷ second-id
 
-bodies-taken : (acceptOf (spoken V11) wantedBody ≡ checked.Fine) × (acceptOf (spoken V12) unwantedBody ≡ checked.Fine)
+bodies-taken : (mode : Mode)
+    → (acceptOf (spoken mode V11) wantedBody ≡ checked.Fine) × (acceptOf (spoken mode V12) unwantedBody ≡ checked.Fine)
 unfolding acceptOf bodyRecords counted overKinds toDepth textCount roleOf rank ownOf isUtf8 run walkAt walkFrom
     readField readValue skipField skipFixed readVarint readLen readTag readUvarint readFrom groupOf
-bodies-taken = (refl, refl)
+bodies-taken mode = (refl, refl)
 
-none-remain : remaining wantedBody unwantedBody ≡ []
+none-remain : (mode : Mode) → remaining mode wantedBody unwantedBody ≡ []
 unfolding remaining wanted unwantedIn atPath onceAfter without among sameBytes walkAt walkFrom readField readValue
     skipField skipFixed readVarint readLen readTag readUvarint readFrom groupOf
-none-remain = refl
+none-remain mode = refl
 
 none-cached : (c : MessageCache) (st : List ℕ) → cachedOf c st [] ≡ []
 unfolding cachedOf rowsFor
@@ -515,12 +607,13 @@ none-cached c st = refl
 none-served : replyWith play unwantedBody lacking-a holding-it ≡ served.Reply 0 0 0
 unfolding serveAnswer
 none-served =
+    let mode = modeOf (holding-it .node .cache .flags) in
     rw (
       request-bytes,
       history-keeps calls-b fresh-b .fine,
-      bodies-taken .0,
-      bodies-taken .1,
-      none-remain,
+      bodies-taken mode .0,
+      bodies-taken mode .1,
+      none-remain mode,
       none-cached (holding-it .node .cache) (holding-it .messages),
     )
 
@@ -530,7 +623,8 @@ needs-no-idontwant = withheld play unwantedBody lacking-a holding-it (ap length 
 -- ---- the clock never falls
 -- a message that would be taken, and a heartbeat, are refused by 31 at a reading before the clock
 pub needs-rises : (n : Node) (ss cs : List ℕ) (ed : Edition) (body : List ℕ) (i at a e x y z w : ℕ)
-    → lentOf n ss cs ≡ lent.Fine → acceptOf (spoken ed) body ≡ checked.Fine → messageAt body i ≡ found.At a e
+    → lentOf n ss cs ≡ lent.Fine → acceptOf (spoken (modeOf (n .cache .flags)) ed) body ≡ checked.Fine
+    → messageAt (modeOf (n .cache .flags)) body i ≡ found.At a e
     → admissionOf (n .cache .flags) (between body a e) true ≡ admission.Fit x y z w → at < n .clock
     → (planned n ss cs ed body i true at ≡ no (answered.ClockBack (n .clock)))
     × (beatAnswer n ss cs at ≡ beat.ClockBack (n .clock))
@@ -556,7 +650,7 @@ needs-advert-room n ss cs out topic windows fine short h =
     rw (fine, le-ltb 1024 (length topic) short, lt-leb (length (advertiseBytes n cs topic windows)) (length out) h)
 
 pub needs-request-room : (n : Node) (ss cs out : List ℕ) (ed : Edition) (body : List ℕ) → lentOf n ss cs ≡ lent.Fine
-    → acceptOf (spoken ed) body ≡ checked.Fine → length out < length (askBytes n ss body)
+    → acceptOf (spoken (modeOf (n .cache .flags)) ed) body ≡ checked.Fine → length out < length (askBytes n ss body)
     → askAnswer n ss cs ed body out ≡ asked.Room (length (askBytes n ss body))
 unfolding askAnswer answer
 needs-request-room n ss cs out ed body fine ok h = rw (fine, ok, lt-leb (length (askBytes n ss body)) (length out) h)

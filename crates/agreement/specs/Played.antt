@@ -10,7 +10,7 @@ use lib.ListN.{length, getD, take}
 use lib.Seq.{sets}
 use borrow.Author.Tests.{le-ltb}
 use Rattle.basis.specs.declared.Edition.the-variants.{V11, V12}
-use Rattle.basis.specs.Dialect.{spoken}
+use Rattle.basis.specs.Dialect.{modeOf, spoken}
 use Rattle.basis.specs.Cases.{either}
 use Rattle.basis.specs.Lists.{answer-fits, written-fits}
 use Rattle.rows.specs.Ids.{sameBytes, among}
@@ -19,6 +19,7 @@ use Rattle.rows.specs.ListLaws.{put-sets}
 use Rattle.protobuf.specs.declared.Checked.the-variants as checked
 use Rattle.protobuf.specs.Encode.{bytesField}
 use Rattle.schema.specs.Accept.{acceptOf}
+use Rattle.schema.specs.AcceptLaws.{empty-taken}
 use Rattle.admission.specs.AdmissionLaws.{gives-only, fit-limits}
 use Rattle.node.specs.Parts.{fitting}
 use Rattle.node.specs.PartsLaws.{fitting-room, fitting-le}
@@ -29,11 +30,11 @@ use Rattle.node.specs.declared.Advertise.the-variants as told
 use Rattle.node.specs.declared.Ask.the-variants as asked
 use Rattle.node.specs.declared.Serve.{Serve}
 use Rattle.node.specs.Gateway.{Gateway, toldOf, lacking, having, maxRpcSize}
+use Rattle.node.specs.State.{gatewayIn}
 use Rattle.node.specs.Calls.{lentOf, advertiseAnswer, advertiseLeft, advertiseBytes, askAnswer, askLeft, askBytes}
 use Rattle.node.specs.Calls.{serveAnswer, serveLeft, cachedOf, remaining, roomOf, servedOf, replyBytes, replyTo}
 use Rattle.node.specs.Calls.{serveNumber}
 use Rattle.node.specs.ReplyLaws.{reply-some}
-use Rattle.node.specs.Declined.{empty-taken}
 use Rattle.outputs.specs.Adverts.{advert-rpc, advert-taken}
 use Rattle.history.specs.History.{State, gatewayOf, Settings, admit, advertise, ask, serve, refusalAt, servedBytes}
 use Rattle.history.specs.History.{servedMessages, admits}
@@ -98,7 +99,7 @@ module _ {set : List (List ℕ)} {y : Settings} {firstB pastB leftB : ℕ} {rsB 
   adverted-small : length adverted ≤ length out
   adverted-small =
       let w = advert-rpc (b .node) (b .ids) (b .messages) topic windows (hb .kept .fine) (hb .bytes) short .1
-      (spoken V11) .small in
+      (spoken (modeOf (y .flags)) V11) .small in
       omega arith
 
   advertise-answer : advertiseAnswer (b .node) (b .ids) (b .messages) topic windows out ≡ told.Bytes (length adverted)
@@ -144,13 +145,13 @@ module _ {set : List (List ℕ)} {x y : Settings} {firstA pastA leftA firstB pas
   asking-small : length asking ≤ length (p .request-out 0)
   asking-small =
       let w = request-rpc (b .node) (b .ids) (b .messages) (p .topic) (p .windows) fineB (hb .bytes) (fair .topic-short)
-      (a .node) (a .ids) (a .messages) .1 (spoken V11) .small in
+      (a .node) (a .ids) (a .messages) .1 (spoken (modeOf (y .flags)) V11) .small in
       let r = fair .request-room 0 in
       omega arith
 
-  advert-accepted : acceptOf (spoken (p .ask-edition 0)) advert ≡ checked.Fine
+  advert-accepted : acceptOf (spoken (modeOf (a .node .cache .flags)) (p .ask-edition 0)) advert ≡ checked.Fine
   advert-accepted = advert-taken (b .node) (b .ids) (b .messages) (p .topic) (p .windows) fineB (hb .bytes)
-      (fair .topic-short) (spoken (p .ask-edition 0))
+      (fair .topic-short) (spoken (modeOf (a .node .cache .flags)) (p .ask-edition 0))
 
   request-answer : askAnswer (a .node) (a .ids) (a .messages) (p .ask-edition 0) advert (p .request-out 0)
       ≡ asked.Bytes (length asking)
@@ -191,7 +192,8 @@ module _ {set : List (List ℕ)} {x y : Settings} {firstA pastA leftA firstB pas
   pub reply-at : (j : ℕ) → j < length wants → getD replies j [] ≡ get (getD wants j []) (gatewayOf b .cache)
   unfolding replies
   reply-at j l =
-      having-at (gatewayOf b) wants (λ i t. told-held (p .topic) (p .windows) (gatewayOf b .cache) i (wants-told i t)) j
+      having-at (gatewayOf b) wants (λ i t. told-held (modeOf (gatewayOf b .flags)) (p .topic) (p .windows)
+      (gatewayOf b .cache) i (wants-told i t)) j
       l
 
   pub reply-got : (j : ℕ) → j < length wants → Got (y .flags) (getD wants j []) (getD replies j []) gotB
@@ -215,23 +217,28 @@ module _ {set : List (List ℕ)} {x y : Settings} {firstA pastA leftA firstB pas
   enough-replies : min 15 (length replies) ≤ servedOf replies (p .reply-out 0)
   enough-replies = served-enough replies (p .reply-out 0) (fair .reply-room 0) reply-short
 
-  reply-cached : cachedOf (b .node .cache) (b .messages) (remaining asking []) ≡ replies
+  reply-cached : cachedOf (b .node .cache) (b .messages) (remaining (modeOf (b .node .cache .flags)) asking [])
+      ≡ replies
   unfolding replies wants
   reply-cached = reply-has (b .node) (b .ids) (b .messages) (p .topic) (p .windows) fineB (hb .bytes)
       (fair .topic-short) (a .node) (a .ids) (a .messages)
 
-  request-accepted : acceptOf (spoken (p .serve-edition 0)) asking ≡ checked.Fine
+  request-accepted : acceptOf (spoken (modeOf (b .node .cache .flags)) (p .serve-edition 0)) asking ≡ checked.Fine
   request-accepted = request-taken (b .node) (b .ids) (b .messages) (p .topic) (p .windows) fineB (hb .bytes)
-      (fair .topic-short) (a .node) (a .ids) (a .messages) .0 (spoken (p .serve-edition 0))
+      (fair .topic-short) (a .node) (a .ids) (a .messages) .0
+      (spoken (modeOf (b .node .cache .flags)) (p .serve-edition 0))
+
+  no-second : acceptOf (spoken (modeOf (b .node .cache .flags)) V12) [] ≡ checked.Fine
+  no-second = empty-taken (spoken (modeOf (b .node .cache .flags)) V12)
 
   reply-answer : replyAnswer p a b ≡ replyTo replies (p .reply-out 0)
   unfolding serveAnswer
-  reply-answer = rw (requested, fineB, request-accepted, empty-taken (spoken V12), reply-cached)
+  reply-answer = rw (requested, fineB, request-accepted, no-second, reply-cached)
 
   reply-left : serveLeft (b .node) (b .ids) (b .messages) (p .serve-edition 0) (requestOf p a b) [] (p .reply-out 0)
       ≡ sets (p .reply-out 0) 0 (replyBytes replies (p .reply-out 0))
   unfolding serveLeft
-  reply-left = rw (requested, fineB, request-accepted, empty-taken (spoken V12), reply-cached)
+  reply-left = rw (requested, fineB, request-accepted, no-second, reply-cached)
 
   abbrev answers : Answers replies (p .reply-out 0) (replyTo replies (p .reply-out 0))
   answers = reply-answers replies (p .reply-out 0) enough-replies
@@ -247,10 +254,13 @@ module _ {set : List (List ℕ)} {x y : Settings} {firstA pastA leftA firstB pas
   unfolding servedCount
   served-is = rw reply-answer (answers .count)
 
-  pub reply-delivers : Delivers replies (p .reply-out 0)
-  unfolding replies wants
-  reply-delivers = reply-taken (b .node) (b .ids) (b .messages) (p .topic) (p .windows) fineB (hb .bytes)
-      (fair .topic-short) (a .node) (a .ids) (a .messages) (p .reply-out 0)
+  -- read in the teller's mode
+  pub reply-delivers : Delivers (modeOf (y .flags)) replies (p .reply-out 0)
+  unfolding replies wants gatewayIn
+  reply-delivers =
+      subst (λ (f : ℕ). Delivers (modeOf f) replies (p .reply-out 0)) (hb .held .flags)
+      (reply-taken (b .node) (b .ids) (b .messages) (p .topic) (p .windows) fineB (hb .bytes)
+      (fair .topic-short) (a .node) (a .ids) (a .messages) (p .reply-out 0))
 
   -- ---- where one message is asked for, the reply is the body with that message, and the asker admits it
   module _ (m id : List ℕ)

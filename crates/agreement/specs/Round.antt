@@ -15,8 +15,8 @@ use Rattle.node.specs.Calls.{advertiseAnswer, advertiseLeft, askAnswer, askLeft
 use Rattle.history.specs.History.{State, gatewayOf, Settings, Call, advertise, ask, serve, afterAll, toldBytes}
 use Rattle.history.specs.History.{askedBytes, servedBytes, servedMessages, admits}
 
--- ---- "lacks": the messages of a topic that are cached at one gateway, which reads them in this mode, and not held by the
--- asker
+-- ---- "lacks": the messages of a topic that are cached at one gateway, which reads them in this mode, and not held by
+-- the asker
 unfoldable pub missing : Mode → List ℕ → Gateway → List Cached → List Cached
 missing mode topic asker [] = []
 missing mode topic asker (c ∷ cs) =

@@ -8,6 +8,7 @@ use native.Mathlib.Omega.{arith}
 use lib.ListN.{length}
 use lib.Dec.{eqb}
 use borrow.Author.Tests.{lt-leb, lt-ltb}
+use Rattle.basis.specs.Dialect.{modeOf}
 use Rattle.basis.specs.Cases.{either, clash}
 use Rattle.rows.specs.Ids.{sameBytes, among}
 use Rattle.rows.specs.IdsLaws.{same-self, same-equal}
@@ -24,7 +25,7 @@ use Rattle.agreement.specs.Premises.{MessageSet}
 -- window at most `most`
 pub record Row (flags least most : ℕ) (m : List ℕ) (e : Entry) (c : Cached) : Type 0 where
   pub own : givesId flags m (c .id) ≡ true
-  pub seen : e .id ≡ formOf m (c .id)
+  pub seen : e .id ≡ formOf (modeOf flags) m (c .id)
   pub message : c .message ≡ m
   pub lasts : least ≤ e .expiry
   pub young : c .window ≤ most
@@ -73,7 +74,8 @@ rows-shift history h (row {m} {e} {c} {ms} {es} {cs} x rs) =
 
 -- ---- an id counts as held by a row exactly where it is the row's: a message that was taken without a signature was
 -- allowed, and then either form counts
-form-known : (flags : ℕ) (k i id : List ℕ) (signed : Bool) → isSigned k ≡ signed → givesId flags k i ≡ true
+form-known : (flags : ℕ) (k i id : List ℕ) (signed : Bool) → isSigned (modeOf flags) k ≡ signed
+    → givesId flags k i ≡ true
     → (sameBytes (marked signed i) (marked true id)
     || (allowsUnsigned flags && sameBytes (marked signed i) (marked false id))) ≡ sameBytes i id
 unfolding sameBytes
@@ -105,7 +107,7 @@ module _ {flags : ℕ} {set : List (List ℕ)} (ms : MessageSet flags set) (m id
 
   -- and so are their marked forms
   same-forms : (k i : List ℕ) → among k set ≡ true → givesId flags k i ≡ true
-      → sameBytes (formOf k i) (formOf m id) ≡ sameBytes k m
+      → sameBytes (formOf (modeOf flags) k i) (formOf (modeOf flags) m id) ≡ sameBytes k m
   unfolding sameBytes
   same-forms k i a g =
       let s = same-ids k i a g in
@@ -113,13 +115,14 @@ module _ {flags : ℕ} {set : List (List ℕ)} (ms : MessageSet flags set) (m id
       (λ t.
       let e = same-equal k m t in
       let f : i ≡ id = one-id flags m i id (rw e at g) own in
-      rw (t, e, f) (same-self (formOf m id)))
-      (λ t. rw (s, t) (and-false (eqb (mark (isSigned k)) (mark (isSigned m)))))
+      rw (t, e, f) (same-self (formOf (modeOf flags) m id)))
+      (λ t. rw (s, t) (and-false (eqb (mark (isSigned (modeOf flags) k)) (mark (isSigned (modeOf flags) m)))))
 
   -- a message is got exactly where its marked id is seen, and exactly where it is cached
   pub rows-held : {least most : ℕ} {got : List (List ℕ)} {es : List Entry} {cs : List Cached}
       → ((k : List ℕ) → among k got ≡ true → among k set ≡ true)
-      → Rows flags least most got es cs → (holds (formOf m id) es ≡ among m got) × (held id cs ≡ among m got)
+      → Rows flags least most got es cs → (holds (formOf (modeOf flags) m id) es ≡ among m got)
+      × (held id cs ≡ among m got)
   unfolding holds held among
   rows-held from none = (refl, refl)
   rows-held from (row {m = k} {e} {c} {ms = got} {es} {cs} x rs) =
@@ -141,7 +144,7 @@ module _ {flags : ℕ} {set : List (List ℕ)} (ms : MessageSet flags set) (m id
   rows-by from (row {m = k} {e} {c} {ms = got} {es} {cs} x rs) =
       let r = rows-by (λ j t. from j (rw t (or-true (sameBytes k j)))) rs in
       let a = from k (simp (same-self k)) in
-      let f = form-known flags k (c .id) id (isSigned k) refl (x .own) ∙ same-ids k (c .id) a (x .own) in
+      let f = form-known flags k (c .id) id (isSigned (modeOf flags) k) refl (x .own) ∙ same-ids k (c .id) a (x .own) in
       row-tests (allowsUnsigned flags) (sameBytes (e .id) (marked true id)) (holds (marked true id) es)
       (sameBytes (e .id) (marked false id)) (holds (marked false id) es)
       ∙ rw (x .seen) (ap₂ (λ (a b : Bool). a || b) f r)

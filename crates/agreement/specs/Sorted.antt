@@ -5,6 +5,7 @@ use mathlib.Core.Path.{_≡_, refl, sym, ap, _∙_}
 use mathlib.Core.Bool.{Bool, true, false, _||_, or-true}
 use mathlib.Core.List.{List, [], _∷_, _++_, append-nil, List·Memᴰ}
 use mathlib.Core.Logic.{_↔_}
+use Rattle.basis.specs.declared.Mode.{Mode}
 use Rattle.basis.specs.Cases.{either, clash}
 use Rattle.rows.specs.Ids.{sameBytes, precedesBytes, among}
 use Rattle.rows.specs.IdsLaws.{same-self, same-equal}
@@ -59,27 +60,27 @@ ordered-same is js h =
     sym (absorbed js is (λ i m. h i ∙ m)) ∙ order-swap js is ∙ absorbed is js (λ i m. sym (h i) ∙ m)
 
 -- ---- what two caches tell is the same where the same ids are told
-pub told-same : (topic : List ℕ) (windows windows2 : ℕ) (ms ks : List Cached)
-    → ((i : List ℕ) → among i (gossipIds topic windows ms) ≡ among i (gossipIds topic windows2 ks))
-    → gossipIds topic windows ms ≡ gossipIds topic windows2 ks
+pub told-same : (mode : Mode) (topic : List ℕ) (windows windows2 : ℕ) (ms ks : List Cached)
+    → ((i : List ℕ) → among i (gossipIds mode topic windows ms) ≡ among i (gossipIds mode topic windows2 ks))
+    → gossipIds mode topic windows ms ≡ gossipIds mode topic windows2 ks
 unfolding gossipIds
-told-same topic windows windows2 ms ks h =
-    ordered-same (idsOf (carrying topic windows ms)) (idsOf (carrying topic windows2 ks)) h
+told-same mode topic windows windows2 ms ks h =
+    ordered-same (idsOf (carrying mode topic windows ms)) (idsOf (carrying mode topic windows2 ks)) h
 
 -- ---- where all windows are asked for, every message that carries the topic is told of
-pub record Carried (i topic : List ℕ) (ms : List Cached) : Type 0 where
+pub record Carried (mode : Mode) (i topic : List ℕ) (ms : List Cached) : Type 0 where
   pub entry : Cached
   pub cached : List·Memᴰ entry ms
   pub named : entry .id ≡ i
-  pub carries : List·Memᴰ topic (topics entry)
+  pub carries : List·Memᴰ topic (topics mode entry)
 
-pub told-all : (i topic : List ℕ) (windows : ℕ) (ms : List Cached)
+pub told-all : (mode : Mode) (i topic : List ℕ) (windows : ℕ) (ms : List Cached)
     → ((m : Cached) → List·Memᴰ m ms → m .window < windows)
-    → (among i (gossipIds topic windows ms) ≡ true) ↔ Carried i topic ms
-told-all i topic windows ms all = (
-  λ h. let t = gossip-exactly i topic windows ms .0 h in
+    → (among i (gossipIds mode topic windows ms) ≡ true) ↔ Carried mode i topic ms
+told-all mode i topic windows ms all = (
+  λ h. let t = gossip-exactly mode i topic windows ms .0 h in
       record { entry = t .entry; cached = t .cached; named = t .named; carries = t .carries },
-  λ (c : Carried i topic ms). gossip-exactly i topic windows ms .1
+  λ (c : Carried mode i topic ms). gossip-exactly mode i topic windows ms .1
       (record {
         entry = c .entry;
         cached = c .cached;
@@ -95,16 +96,16 @@ same-test true b f g = sym (f refl)
 same-test false true f g = g refl
 same-test false false f g = refl
 
-pub told-carried : (topic : List ℕ) (windows windows2 : ℕ) (ms ks : List Cached)
+pub told-carried : (mode : Mode) (topic : List ℕ) (windows windows2 : ℕ) (ms ks : List Cached)
     → ((m : Cached) → List·Memᴰ m ms → m .window < windows)
     → ((m : Cached) → List·Memᴰ m ks → m .window < windows2)
-    → ((i : List ℕ) → Carried i topic ms ↔ Carried i topic ks)
-    → gossipIds topic windows ms ≡ gossipIds topic windows2 ks
-told-carried topic windows windows2 ms ks all all2 h =
-    told-same topic windows windows2 ms ks
+    → ((i : List ℕ) → Carried mode i topic ms ↔ Carried mode i topic ks)
+    → gossipIds mode topic windows ms ≡ gossipIds mode topic windows2 ks
+told-carried mode topic windows windows2 ms ks all all2 h =
+    told-same mode topic windows windows2 ms ks
     (λ i.
-    let t = told-all i topic windows ms all in
-    let u = told-all i topic windows2 ks all2 in
-    same-test (among i (gossipIds topic windows ms)) (among i (gossipIds topic windows2 ks))
+    let t = told-all mode i topic windows ms all in
+    let u = told-all mode i topic windows2 ks all2 in
+    same-test (among i (gossipIds mode topic windows ms)) (among i (gossipIds mode topic windows2 ks))
     (λ e. u .1 (h i .0 (t .0 e)))
     (λ e. t .1 (h i .1 (u .0 e))))

@@ -1,10 +1,12 @@
 // Writing a body anew, from message.rs: its canonical bytes, field by field as the table of messages has them. Each writer says where its
-// bytes end, and puts them there where there is room: lent no bytes, it measures.
+// bytes end, and puts them there where there is room: lent no bytes, it measures. A body that is taken is read by the mode that passes over groups,
+// whatever mode took it: what the first mode takes both read alike.
 ghost use mathlib.Core.Path.{_≡_};
 ghost use mathlib.Core.List.{[], _++_};
 ghost use mathlib.Core.Bool.{cond};
 ghost use Prim.Native.Nat.{_+_, _≤_};
 ghost use lib.ListN.{length};
+ghost use Rattle.basis.specs.Dialect.{spoken};
 ghost use Rattle.basis.specs.Writing.{answer, written, setIn};
 ghost use Rattle.basis.specs.Unique.{Leaves};
 ghost use Rattle.peer_id.specs.Uvarint.{uvarint};
@@ -20,6 +22,7 @@ ghost use Rattle.encode.specs.Encode.{encodeAnswer, encodeLeft};
 ghost use Rattle.encode.specs.Sign.{signAnswer, signLeft};
 ghost use Rattle.encode.specs.Puts.{Puts, Fits, headAt};
 use basis::Dialect;
+use basis::Edition;
 use basis::Mode;
 use ids::MessageAt;
 use ids::MessageBytes;
@@ -214,14 +217,14 @@ fn emit_there(input: &[u8], f: Field, n: u64, out: &mut [u8], at: usize) -> usiz
 }
 
 // Each length-delimited field n as it stands.
-fn emit_whole(mode: Mode, input: &[u8], n: u64, out: &mut [u8], at: usize) -> usize
-    requires { ⌜ (n ≤ 6) × Fits at (eachOf mode (bytesField n) n (now input)) ⌝ }
-    ensures { λ r. ⌜ Puts (now (out .entry)) at (eachOf mode (bytesField n) n (now (input .entry))) (now (out .exit)) r ⌝ }
+fn emit_whole(input: &[u8], n: u64, out: &mut [u8], at: usize) -> usize
+    requires { ⌜ (n ≤ 6) × Fits at (eachOf Mode.Groups (bytesField n) n (now input)) ⌝ }
+    ensures { λ r. ⌜ Puts (now (out .entry)) at (eachOf Mode.Groups (bytesField n) n (now (input .entry))) (now (out .exit)) r ⌝ }
 {
     let mut i: usize = 0;
     let mut end = at;
     while i < input.len() {
-        let step = read_field(mode, input, i);
+        let step = read_field(Mode::Groups, input, i);
         match step {
             Step::End => {
                 return end;
@@ -239,27 +242,27 @@ fn emit_whole(mode: Mode, input: &[u8], n: u64, out: &mut [u8], at: usize) -> us
 }
 
 // The entries of the field n, by how they are written.
-fn emit_held(mode: Mode, input: &[u8], n: u64, held: Held, out: &mut [u8], at: usize) -> usize
-    requires { ⌜ (n ≤ 6) × Fits at (heldPart mode (canon mode) n (now input) held) ⌝ }
-    ensures { λ r. ⌜ Puts (now (out .entry)) at (heldPart mode (canon mode) n (now (input .entry)) held) (now (out .exit)) r ⌝ }
+fn emit_held(input: &[u8], n: u64, held: Held, out: &mut [u8], at: usize) -> usize
+    requires { ⌜ (n ≤ 6) × Fits at (heldPart Mode.Groups (canon Mode.Groups) n (now input) held) ⌝ }
+    ensures { λ r. ⌜ Puts (now (out .entry)) at (heldPart Mode.Groups (canon Mode.Groups) n (now (input .entry)) held) (now (out .exit)) r ⌝ }
 {
     match held {
         Held::Nothing => at,
-        Held::Whole => emit_whole(mode, input, n, out, at),
-        Held::Anew(kind) => emit_anew(mode, input, n, kind, out, at),
+        Held::Whole => emit_whole(input, n, out, at),
+        Held::Anew(kind) => emit_anew(input, n, kind, out, at),
         Held::Merged(_) => at,
     }
 }
 
 // Each length-delimited field n, a submessage, in its canonical bytes.
-fn emit_anew(mode: Mode, input: &[u8], n: u64, kind: Kind, out: &mut [u8], at: usize) -> usize
-    requires { ⌜ (n ≤ 6) × Fits at (eachOf mode (λ p. bytesField n (canon mode kind p)) n (now input)) ⌝ }
-    ensures { λ r. ⌜ Puts (now (out .entry)) at (eachOf mode (λ p. bytesField n (canon mode kind p)) n (now (input .entry))) (now (out .exit)) r ⌝ }
+fn emit_anew(input: &[u8], n: u64, kind: Kind, out: &mut [u8], at: usize) -> usize
+    requires { ⌜ (n ≤ 6) × Fits at (eachOf Mode.Groups (λ p. bytesField n (canon Mode.Groups kind p)) n (now input)) ⌝ }
+    ensures { λ r. ⌜ Puts (now (out .entry)) at (eachOf Mode.Groups (λ p. bytesField n (canon Mode.Groups kind p)) n (now (input .entry))) (now (out .exit)) r ⌝ }
 {
     let mut i: usize = 0;
     let mut end = at;
     while i < input.len() {
-        let step = read_field(mode, input, i);
+        let step = read_field(Mode::Groups, input, i);
         match step {
             Step::End => {
                 return end;
@@ -268,7 +271,7 @@ fn emit_anew(mode: Mode, input: &[u8], n: u64, kind: Kind, out: &mut [u8], at: u
                 return end;
             }
             Step::At(f) => {
-                end = emit_sub(mode, input, f, n, kind, out, end);
+                end = emit_sub(input, f, n, kind, out, end);
                 i = f.next;
             }
         }
@@ -277,40 +280,32 @@ fn emit_anew(mode: Mode, input: &[u8], n: u64, kind: Kind, out: &mut [u8], at: u
 }
 
 // A field, where it is length-delimited and has the number n: the canonical bytes of the submessage in it, measured before they are written.
-fn emit_sub(
-    mode: Mode,
-    input: &[u8],
-    f: Field,
-    n: u64,
-    kind: Kind,
-    out: &mut [u8],
-    at: usize,
-) -> usize
-    requires { ⌜ (n ≤ 6) × FieldWithin (now input) f × Fits at (cond (isBytes n f) (bytesField n (canon mode kind (valueIn (now input) f))) []) ⌝ }
-    ensures { λ r. ⌜ Puts (now (out .entry)) at (cond (isBytes n f) (bytesField n (canon mode kind (valueIn (now (input .entry)) f))) []) (now (out .exit)) r ⌝ }
+fn emit_sub(input: &[u8], f: Field, n: u64, kind: Kind, out: &mut [u8], at: usize) -> usize
+    requires { ⌜ (n ≤ 6) × FieldWithin (now input) f × Fits at (cond (isBytes n f) (bytesField n (canon Mode.Groups kind (valueIn (now input) f))) []) ⌝ }
+    ensures { λ r. ⌜ Puts (now (out .entry)) at (cond (isBytes n f) (bytesField n (canon Mode.Groups kind (valueIn (now (input .entry)) f))) []) (now (out .exit)) r ⌝ }
 {
     let start = f.start;
     let next = f.next;
     if f.wire_type == WIRE_LEN {
         if f.field == n {
             let mut none = [0u8; 1];
-            let len = emit_message(mode, &input[start..next], kind, &mut none, 0);
+            let len = emit_message(&input[start..next], kind, &mut none, 0);
             let i = emit_head(n, len, out, at);
             if out.len() < i + len {
                 return i + len;
             }
-            return emit_message(mode, &input[start..next], kind, out, i);
+            return emit_message(&input[start..next], kind, out, i);
         }
     }
     at
 }
 
 // A message: its fields in the order of their numbers.
-fn emit_message(mode: Mode, part: &[u8], kind: Kind, out: &mut [u8], at: usize) -> usize
-    requires { ⌜ Fits at (canon mode kind (now part)) ⌝ }
-    ensures { λ r. ⌜ Puts (now (out .entry)) at (canon mode kind (now (part .entry))) (now (out .exit)) r ⌝ }
+fn emit_message(part: &[u8], kind: Kind, out: &mut [u8], at: usize) -> usize
+    requires { ⌜ Fits at (canon Mode.Groups kind (now part)) ⌝ }
+    ensures { λ r. ⌜ Puts (now (out .entry)) at (canon Mode.Groups kind (now (part .entry))) (now (out .exit)) r ⌝ }
 {
-    let slots = slots_of(mode, part, kind);
+    let slots = slots_of(Mode::Groups, part, kind);
     let last = rows(kind);
     let mut n: u64 = 1;
     let mut end = at;
@@ -318,54 +313,41 @@ fn emit_message(mode: Mode, part: &[u8], kind: Kind, out: &mut [u8], at: usize) 
         let role = row_of(kind, n);
         let i = emit_own(part, slots, n, role, out, end);
         let held = held_of(role);
-        end = emit_held(mode, part, n, held, out, i);
+        if let Held::Nothing = held {
+            end = i;
+        } else {
+            end = emit_held(part, n, held, out, i);
+        }
         n += 1;
     }
     end
 }
 
 // The entries m of a field, where it is the submessage n of that kind.
-fn emit_entry(
-    mode: Mode,
-    body: &[u8],
-    f: Field,
-    kind: Kind,
-    n: u64,
-    m: u64,
-    out: &mut [u8],
-    at: usize,
-) -> usize
-    requires { ⌜ (m ≤ 6) × FieldWithin (now body) f × Fits at (cond (isBytes n f) (heldPart mode (canon mode) m (valueIn (now body) f) (heldOf (rowOf kind m))) []) ⌝ }
-    ensures { λ r. ⌜ Puts (now (out .entry)) at (cond (isBytes n f) (heldPart mode (canon mode) m (valueIn (now (body .entry)) f) (heldOf (rowOf kind m))) []) (now (out .exit)) r ⌝ }
+fn emit_entry(body: &[u8], f: Field, kind: Kind, n: u64, m: u64, out: &mut [u8], at: usize) -> usize
+    requires { ⌜ (m ≤ 6) × FieldWithin (now body) f × Fits at (cond (isBytes n f) (heldPart Mode.Groups (canon Mode.Groups) m (valueIn (now body) f) (heldOf (rowOf kind m))) []) ⌝ }
+    ensures { λ r. ⌜ Puts (now (out .entry)) at (cond (isBytes n f) (heldPart Mode.Groups (canon Mode.Groups) m (valueIn (now (body .entry)) f) (heldOf (rowOf kind m))) []) (now (out .exit)) r ⌝ }
 {
     let start = f.start;
     let next = f.next;
     if f.wire_type == WIRE_LEN {
         if f.field == n {
             let held = held_of(row_of(kind, m));
-            return emit_held(mode, &body[start..next], m, held, out, at);
+            return emit_held(&body[start..next], m, held, out, at);
         }
     }
     at
 }
 
 // The entries m of each submessage n, one submessage after the other.
-fn emit_entries(
-    mode: Mode,
-    body: &[u8],
-    kind: Kind,
-    n: u64,
-    m: u64,
-    out: &mut [u8],
-    at: usize,
-) -> usize
-    requires { ⌜ (m ≤ 6) × Fits at (entriesOf mode kind n (now body) m) ⌝ }
-    ensures { λ r. ⌜ Puts (now (out .entry)) at (entriesOf mode kind n (now (body .entry)) m) (now (out .exit)) r ⌝ }
+fn emit_entries(body: &[u8], kind: Kind, n: u64, m: u64, out: &mut [u8], at: usize) -> usize
+    requires { ⌜ (m ≤ 6) × Fits at (entriesOf Mode.Groups kind n (now body) m) ⌝ }
+    ensures { λ r. ⌜ Puts (now (out .entry)) at (entriesOf Mode.Groups kind n (now (body .entry)) m) (now (out .exit)) r ⌝ }
 {
     let mut i: usize = 0;
     let mut end = at;
     while i < body.len() {
-        let step = read_field(mode, body, i);
+        let step = read_field(Mode::Groups, body, i);
         match step {
             Step::End => {
                 return end;
@@ -374,7 +356,7 @@ fn emit_entries(
                 return end;
             }
             Step::At(f) => {
-                end = emit_entry(mode, body, f, kind, n, m, out, end);
+                end = emit_entry(body, f, kind, n, m, out, end);
                 i = f.next;
             }
         }
@@ -383,85 +365,83 @@ fn emit_entries(
 }
 
 // The submessages n as one.
-fn emit_merged(mode: Mode, body: &[u8], kind: Kind, n: u64, out: &mut [u8], at: usize) -> usize
-    requires { ⌜ Fits at (mergedOf mode kind n (now body)) ⌝ }
-    ensures { λ r. ⌜ Puts (now (out .entry)) at (mergedOf mode kind n (now (body .entry))) (now (out .exit)) r ⌝ }
+fn emit_merged(body: &[u8], kind: Kind, n: u64, out: &mut [u8], at: usize) -> usize
+    requires { ⌜ Fits at (mergedOf Mode.Groups kind n (now body)) ⌝ }
+    ensures { λ r. ⌜ Puts (now (out .entry)) at (mergedOf Mode.Groups kind n (now (body .entry))) (now (out .exit)) r ⌝ }
 {
     let last = rows(kind);
     let mut m: u64 = 1;
     let mut end = at;
     while m <= last {
-        end = emit_entries(mode, body, kind, n, m, out, end);
+        end = emit_entries(body, kind, n, m, out, end);
         m += 1;
     }
     end
 }
 
 // The field n that holds the submessages n as one, where there is any, be it empty.
-fn emit_control(mode: Mode, body: &[u8], kind: Kind, n: u64, out: &mut [u8], at: usize) -> usize
-    requires { ⌜ (n ≤ 6) × Fits at (cond (hasField mode n (now body)) (bytesField n (mergedOf mode kind n (now body))) []) ⌝ }
-    ensures { λ r. ⌜ Puts (now (out .entry)) at (cond (hasField mode n (now (body .entry))) (bytesField n (mergedOf mode kind n (now (body .entry)))) []) (now (out .exit)) r ⌝ }
+fn emit_control(body: &[u8], kind: Kind, n: u64, out: &mut [u8], at: usize) -> usize
+    requires { ⌜ (n ≤ 6) × Fits at (cond (hasField Mode.Groups n (now body)) (bytesField n (mergedOf Mode.Groups kind n (now body))) []) ⌝ }
+    ensures { λ r. ⌜ Puts (now (out .entry)) at (cond (hasField Mode.Groups n (now (body .entry))) (bytesField n (mergedOf Mode.Groups kind n (now (body .entry)))) []) (now (out .exit)) r ⌝ }
 {
-    let there = has_field(mode, body, n);
+    let there = has_field(Mode::Groups, body, n);
     if there {
         let mut none = [0u8; 1];
-        let len = emit_merged(mode, body, kind, n, &mut none, 0);
+        let len = emit_merged(body, kind, n, &mut none, 0);
         let i = emit_head(n, len, out, at);
         if out.len() < i + len {
             return i + len;
         }
-        return emit_merged(mode, body, kind, n, out, i);
+        return emit_merged(body, kind, n, out, i);
     }
     at
 }
 
 // The field n of a body, by how it is written.
-fn emit_top(mode: Mode, body: &[u8], n: u64, held: Held, out: &mut [u8], at: usize) -> usize
-    requires { ⌜ (n ≤ 6) × Fits at (bodyPart mode (now body) n held) ⌝ }
-    ensures { λ r. ⌜ Puts (now (out .entry)) at (bodyPart mode (now (body .entry)) n held) (now (out .exit)) r ⌝ }
+fn emit_top(body: &[u8], n: u64, held: Held, out: &mut [u8], at: usize) -> usize
+    requires { ⌜ (n ≤ 6) × Fits at (bodyPart Mode.Groups (now body) n held) ⌝ }
+    ensures { λ r. ⌜ Puts (now (out .entry)) at (bodyPart Mode.Groups (now (body .entry)) n held) (now (out .exit)) r ⌝ }
 {
     match held {
         Held::Nothing => at,
-        Held::Whole => emit_held(mode, body, n, held, out, at),
-        Held::Anew(_) => emit_held(mode, body, n, held, out, at),
-        Held::Merged(kind) => emit_control(mode, body, kind, n, out, at),
+        Held::Whole => emit_held(body, n, held, out, at),
+        Held::Anew(_) => emit_held(body, n, held, out, at),
+        Held::Merged(kind) => emit_control(body, kind, n, out, at),
     }
 }
 
 // A body: subscriptions, then the published messages as they stand, then the controls as one.
-fn emit_body(dialect: Dialect, body: &[u8], out: &mut [u8]) -> usize
-    requires { ⌜ Fits 0 (canonBody dialect (now body)) ⌝ }
-    ensures { λ r. ⌜ Puts (now (out .entry)) 0 (canonBody dialect (now (body .entry))) (now (out .exit)) r ⌝ }
+fn emit_body(edition: Edition, body: &[u8], out: &mut [u8]) -> usize
+    requires { ⌜ Fits 0 (canonBody (spoken Mode.Groups edition) (now body)) ⌝ }
+    ensures { λ r. ⌜ Puts (now (out .entry)) 0 (canonBody (spoken Mode.Groups edition) (now (body .entry))) (now (out .exit)) r ⌝ }
 {
-    let mode = dialect.mode;
-    let edition = dialect.edition;
     let last = rows(Kind::Rpc(edition));
     let mut n: u64 = 1;
     let mut end: usize = 0;
     while n <= last {
         let held = held_of(row_of(Kind::Rpc(edition), n));
-        end = emit_top(mode, body, n, held, out, end);
+        end = emit_top(body, n, held, out, end);
         n += 1;
     }
     end
 }
 
 // Writes a body that is taken. Its canonical bytes are never longer than it, so they are measured only where there may be no room for them.
-fn encode_taken(dialect: Dialect, body: &[u8], out: &mut [u8]) -> Encoded
-    requires { ⌜ (length (canonBody dialect (now body)) ≤ length (now body)) × (length (now body) ≤ 65536) ⌝ }
-    ensures { λ r. ⌜ r ≡ encoded (answer (canonBody dialect (now (body .entry))) (now (out .entry))) ⌝ }
-    ensures { λ _. ⌜ now (out .exit) ≡ written (canonBody dialect (now (body .entry))) (now (out .entry)) ⌝ }
+fn encode_taken(edition: Edition, body: &[u8], out: &mut [u8]) -> Encoded
+    requires { ⌜ (length (canonBody (spoken Mode.Groups edition) (now body)) ≤ length (now body)) × (length (now body) ≤ 65536) ⌝ }
+    ensures { λ r. ⌜ r ≡ encoded (answer (canonBody (spoken Mode.Groups edition) (now (body .entry))) (now (out .entry))) ⌝ }
+    ensures { λ _. ⌜ now (out .exit) ≡ written (canonBody (spoken Mode.Groups edition) (now (body .entry))) (now (out .entry)) ⌝ }
 {
     if out.len() < body.len() {
         let mut none = [0u8; 1];
-        let needed = emit_body(dialect, body, &mut none);
+        let needed = emit_body(edition, body, &mut none);
         if out.len() < needed {
             return Encoded::Room(needed);
         }
-        emit_body(dialect, body, out);
+        emit_body(edition, body, out);
         return Encoded::Bytes(needed);
     }
-    let end = emit_body(dialect, body, out);
+    let end = emit_body(edition, body, out);
     Encoded::Bytes(end)
 }
 
@@ -470,39 +450,40 @@ pub fn encode(dialect: Dialect, body: &[u8], out: &mut [u8]) -> Encoded
     ensures { λ r. ⌜ Leaves (encodeAnswer dialect (now (body .entry)) (now (out .entry)))
         (encodeLeft dialect (now (body .entry)) (now (out .entry))) r (now (out .exit)) ⌝ }
 {
+    let edition = dialect.edition;
     let c = accept(dialect, body);
     match c {
         Checked::Refused(why) => Encoded::Refused(why),
-        Checked::Fine => encode_taken(dialect, body, out),
+        Checked::Fine => encode_taken(edition, body, out),
     }
 }
 
 // The bytes of a message that are signed: the prefix, and the message's canonical bytes.
-fn emit_signed(mode: Mode, part: &[u8], out: &mut [u8]) -> usize
-    requires { ⌜ length (canon mode Kind.RawMessage (now part)) ≤ 65536 ⌝ }
-    ensures { λ r. ⌜ Puts (now (out .entry)) 0 (signOf mode (now (part .entry))) (now (out .exit)) r ⌝ }
+fn emit_signed(part: &[u8], out: &mut [u8]) -> usize
+    requires { ⌜ length (canon Mode.Groups Kind.RawMessage (now part)) ≤ 65536 ⌝ }
+    ensures { λ r. ⌜ Puts (now (out .entry)) 0 (signOf Mode.Groups (now (part .entry))) (now (out .exit)) r ⌝ }
 {
     let i = emit_bytes(b"libp2p-pubsub:", out, 0);
-    emit_message(mode, part, Kind::RawMessage, out, i)
+    emit_message(part, Kind::RawMessage, out, i)
 }
 
 // Writes the bytes of a message that are signed at the front of out. They are at most 14 more than the message, and measured only where there
 // may be no room for them.
-fn sign_part(mode: Mode, part: &[u8], out: &mut [u8]) -> MessageBytes
-    requires { ⌜ (length (canon mode Kind.RawMessage (now part)) ≤ length (now part)) × (length (now part) ≤ 65536) ⌝ }
-    ensures { λ r. ⌜ r ≡ ofWritten (answer (signOf mode (now (part .entry))) (now (out .entry))) ⌝ }
-    ensures { λ _. ⌜ now (out .exit) ≡ written (signOf mode (now (part .entry))) (now (out .entry)) ⌝ }
+fn sign_part(part: &[u8], out: &mut [u8]) -> MessageBytes
+    requires { ⌜ (length (canon Mode.Groups Kind.RawMessage (now part)) ≤ length (now part)) × (length (now part) ≤ 65536) ⌝ }
+    ensures { λ r. ⌜ r ≡ ofWritten (answer (signOf Mode.Groups (now (part .entry))) (now (out .entry))) ⌝ }
+    ensures { λ _. ⌜ now (out .exit) ≡ written (signOf Mode.Groups (now (part .entry))) (now (out .entry)) ⌝ }
 {
     if out.len() < part.len() + 14 {
         let mut none = [0u8; 1];
-        let needed = emit_signed(mode, part, &mut none);
+        let needed = emit_signed(part, &mut none);
         if out.len() < needed {
             return MessageBytes::Room(needed);
         }
-        emit_signed(mode, part, out);
+        emit_signed(part, out);
         return MessageBytes::Bytes(needed);
     }
-    let end = emit_signed(mode, part, out);
+    let end = emit_signed(part, out);
     MessageBytes::Bytes(end)
 }
 
@@ -519,7 +500,7 @@ pub fn sign_bytes(dialect: Dialect, body: &[u8], index: usize, out: &mut [u8]) -
             let m = message_at(mode, body, index);
             match m {
                 MessageAt::Count(n) => MessageBytes::NoMessage(n),
-                MessageAt::At { start, end } => sign_part(mode, &body[start..end], out),
+                MessageAt::At { start, end } => sign_part(&body[start..end], out),
             }
         }
     }

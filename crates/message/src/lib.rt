@@ -1,4 +1,5 @@
-// Reading a body, from message.rs: its records go to a table that the host lends.
+// Reading a body, from message.rs: its records go to a table that the host lends. A body that is taken is read by the mode that passes over groups,
+// whatever mode took it: what the first mode takes both read alike.
 pub mod told;
 
 ghost use mathlib.Core.Path.{_≡_};
@@ -160,7 +161,6 @@ fn put_record(table: &mut [u64], row: usize, r: Record)
 
 // Writes the records of a field of a message whose bytes begin at base, from a row on; the row after them.
 fn write_field(
-    mode: Mode,
     input: &[u8],
     kind: Kind,
     base: usize,
@@ -168,9 +168,9 @@ fn write_field(
     table: &mut [u64],
     row: usize,
 ) -> usize
-    requires { ⌜ (base + length (now input) ≤ 65536) × FieldWithin (now input) f × ((row + length (fieldRows mode kind base (now input) f)) * 20 ≤ length (now table)) ⌝ }
-    ensures { λ r. ⌜ r ≡ row + length (fieldRows mode kind base (now (input .entry)) f) ⌝ }
-    ensures { λ _. ⌜ now (table .exit) ≡ sets (now (table .entry)) (row * 20) (wordsOfAll (fieldRows mode kind base (now (input .entry)) f)) ⌝ }
+    requires { ⌜ (base + length (now input) ≤ 65536) × FieldWithin (now input) f × ((row + length (fieldRows Mode.Groups kind base (now input) f)) * 20 ≤ length (now table)) ⌝ }
+    ensures { λ r. ⌜ r ≡ row + length (fieldRows Mode.Groups kind base (now (input .entry)) f) ⌝ }
+    ensures { λ _. ⌜ now (table .exit) ≡ sets (now (table .entry)) (row * 20) (wordsOfAll (fieldRows Mode.Groups kind base (now (input .entry)) f)) ⌝ }
 {
     let start = f.start;
     let next = f.next;
@@ -182,7 +182,7 @@ fn write_field(
         Role::Bytes(_) => row,
         Role::Topic => write_leaf(Kind::Topic, base + start, base + next, table, row),
         Role::MessageId => write_leaf(Kind::MessageId, base + start, base + next, table, row),
-        Role::Sub(k, _) => write_message(mode, &input[start..next], k, base + start, table, row),
+        Role::Sub(k, _) => write_message(&input[start..next], k, base + start, table, row),
         Role::Unsigned(_) => row,
     }
 }
@@ -213,23 +213,16 @@ fn write_leaf(kind: Kind, start: usize, end: usize, table: &mut [u64], row: usiz
 }
 
 // Writes a message's own record, where its kind has one; the row after it.
-fn write_own(
-    mode: Mode,
-    input: &[u8],
-    kind: Kind,
-    base: usize,
-    table: &mut [u64],
-    row: usize,
-) -> usize
+fn write_own(input: &[u8], kind: Kind, base: usize, table: &mut [u64], row: usize) -> usize
     requires { ⌜ (base + length (now input) ≤ 65536) × ((row + ownOf kind) * 20 ≤ length (now table)) ⌝ }
-    ensures { λ r. ⌜ r ≡ row + length (ownRows mode kind base (now (input .entry))) ⌝ }
-    ensures { λ _. ⌜ now (table .exit) ≡ sets (now (table .entry)) (row * 20) (wordsOfAll (ownRows mode kind base (now (input .entry)))) ⌝ }
+    ensures { λ r. ⌜ r ≡ row + length (ownRows Mode.Groups kind base (now (input .entry))) ⌝ }
+    ensures { λ _. ⌜ now (table .exit) ≡ sets (now (table .entry)) (row * 20) (wordsOfAll (ownRows Mode.Groups kind base (now (input .entry)))) ⌝ }
 {
     let o = own(kind);
     if o == 0 {
         return row;
     }
-    let slots = slots_of(mode, input, kind);
+    let slots = slots_of(Mode::Groups, input, kind);
     put_record(
         table,
         row,
@@ -244,22 +237,15 @@ fn write_own(
 }
 
 // Writes the records of a message whose bytes begin at base, from a row on; the row after them.
-fn write_message(
-    mode: Mode,
-    input: &[u8],
-    kind: Kind,
-    base: usize,
-    table: &mut [u64],
-    row: usize,
-) -> usize
-    requires { ⌜ (base + length (now input) ≤ 65536) × ((row + length (rowsOf mode kind base (now input))) * 20 ≤ length (now table)) ⌝ }
-    ensures { λ r. ⌜ r ≡ row + length (rowsOf mode kind base (now (input .entry))) ⌝ }
-    ensures { λ _. ⌜ now (table .exit) ≡ sets (now (table .entry)) (row * 20) (wordsOfAll (rowsOf mode kind base (now (input .entry)))) ⌝ }
+fn write_message(input: &[u8], kind: Kind, base: usize, table: &mut [u64], row: usize) -> usize
+    requires { ⌜ (base + length (now input) ≤ 65536) × ((row + length (rowsOf Mode.Groups kind base (now input))) * 20 ≤ length (now table)) ⌝ }
+    ensures { λ r. ⌜ r ≡ row + length (rowsOf Mode.Groups kind base (now (input .entry))) ⌝ }
+    ensures { λ _. ⌜ now (table .exit) ≡ sets (now (table .entry)) (row * 20) (wordsOfAll (rowsOf Mode.Groups kind base (now (input .entry)))) ⌝ }
 {
     let mut at: usize = 0;
-    let mut next_row = write_own(mode, input, kind, base, table, row);
+    let mut next_row = write_own(input, kind, base, table, row);
     while at < input.len() {
-        let step = read_field(mode, input, at);
+        let step = read_field(Mode::Groups, input, at);
         match step {
             Step::End => {
                 return next_row;
@@ -268,7 +254,7 @@ fn write_message(
                 return next_row;
             }
             Step::At(f) => {
-                next_row = write_field(mode, input, kind, base, f, table, next_row);
+                next_row = write_field(input, kind, base, f, table, next_row);
                 at = f.next;
             }
         }
@@ -288,7 +274,6 @@ pub fn decode(dialect: Dialect, body: &[u8], table: &mut [u64]) -> Decoded
     ensures { λ r. ⌜ Leaves (decodeAnswer dialect (now (body .entry)) (length (now (table .entry))))
         (decodeTable dialect (now (body .entry)) (now (table .entry))) r (now (table .exit)) ⌝ }
 {
-    let mode = dialect.mode;
     let edition = dialect.edition;
     let c = body_records(dialect, body);
     match c {
@@ -297,8 +282,8 @@ pub fn decode(dialect: Dialect, body: &[u8], table: &mut [u64]) -> Decoded
             if table.len() / RECORD_WORDS < n {
                 return Decoded::Room(n);
             }
-            let control = has_control(mode, body);
-            write_message(mode, body, Kind::Rpc(edition), 0, table, 0);
+            let control = has_control(Mode::Groups, body);
+            write_message(body, Kind::Rpc(edition), 0, table, 0);
             Decoded::Records { count: n, control }
         }
     }

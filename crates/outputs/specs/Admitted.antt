@@ -70,18 +70,21 @@ pub data AdmitTells (n : Node) (ss cs : List ℕ) (ed : Edition) (body : List �
     : Told → Type 0 where
   -- 40, 41, 42
   faulty : {why : Fault} → lentOf n ss cs ≡ lent.Faulty why → AdmitTells n ss cs ed body i word at (faultTold why)
-  -- 10, 1 to 7, 11
+  -- 10, 1 to 7 and 14 to 16, 11
   refuses : {a : Told} → lentOf n ss cs ≡ lent.Fine → Refusal (spoken (modeOf (n .cache .flags)) ed) body a
       → AdmitTells n ss cs ed body i word at a
   -- 20: no message at that index, with the number of messages
-  no-such : {x : Rpc} → lentOf n ss cs ≡ lent.Fine → Within (spoken (modeOf (n .cache .flags)) ed) body x → length (x .publish) ≤ i
+  no-such : {x : Rpc} → lentOf n ss cs ≡ lent.Fine → Within (spoken (modeOf (n .cache .flags)) ed) body x
+      → length (x .publish) ≤ i
       → AdmitTells n ss cs ed body i word at (told no-message (length (x .publish) ∷ []))
   -- 21 to 30 and 34 to 36
-  unfit : {x : Rpc} {m : RawMessage} {why : Unfit} → lentOf n ss cs ≡ lent.Fine → Within (spoken (modeOf (n .cache .flags)) ed) body x
+  unfit : {x : Rpc} {m : RawMessage} {why : Unfit} → lentOf n ss cs ≡ lent.Fine
+      → Within (spoken (modeOf (n .cache .flags)) ed) body x
       → Nth i (x .publish) m → admissionOf (n .cache .flags) (m .raw) word ≡ admission.Unfit why
       → AdmitTells n ss cs ed body i word at (unfitTold why)
   -- 31: now below the clock, with the clock
-  back : {x : Rpc} {m : RawMessage} {a e b f : ℕ} → lentOf n ss cs ≡ lent.Fine → Within (spoken (modeOf (n .cache .flags)) ed) body x
+  back : {x : Rpc} {m : RawMessage} {a e b f : ℕ} → lentOf n ss cs ≡ lent.Fine
+      → Within (spoken (modeOf (n .cache .flags)) ed) body x
       → Nth i (x .publish) m → admissionOf (n .cache .flags) (m .raw) word ≡ admission.Fit a e b f → at < n .clock
       → AdmitTells n ss cs ed body i word at (told clock-back (n .clock ∷ []))
   -- 1 where the id of the message is new, 0 where it is not
@@ -97,7 +100,8 @@ module _ (n : Node) (ss cs : List ℕ) (ed : Edition) (body : List ℕ) (i : ℕ
   of-rpc t =
       let f = found-in i (messageAt (modeOf (n .cache .flags)) body i) (t .within .means) (t .indexed) refl in
       let b : m ≡ between body (f .0) (f .1) = sym (t .raw) ∙ raw-is (modeOf (n .cache .flags)) (f .3) in
-      let own : messageId (t .message) ≡ the-id (idBytes m (t .from-start) (t .from-end) (t .seqno-start) (t .seqno-end)) =
+      let own : messageId (t .message) ≡ the-id (idBytes m (t .from-start) (t .from-end) (t .seqno-start)
+      (t .seqno-end)) =
       id-named (modeOf (n .cache .flags)) (t .from-start) (t .from-end) (t .seqno-start) (t .seqno-end)
       (subst (λ (p : List ℕ). IsMessage (modeOf (n .cache .flags)) p (t .message)) (sym b) (f .3))
       (fit-parts (n .cache .flags) m word (t .from-start) (t .from-end) (t .seqno-start) (t .seqno-end) (t .fit)) in
@@ -159,39 +163,49 @@ module _ (n : Node) (ss cs : List ℕ) (ed : Edition) (body : List ℕ) (i : ℕ
   newTold p id = done (cond (isNew at p id (gatewayIn n ss cs)) 1 0 ∷ [])
 
   new-told : lentOf n ss cs ≡ lent.Fine → (p id : List ℕ)
-      → admitTold (cond (heldAt n ss at (formOf (modeOf (n .cache .flags)) p id)) admit.Duplicate admit.New) ≡ newTold p id
+      → admitTold (cond (heldAt n ss at (formOf (modeOf (n .cache .flags)) p id)) admit.Duplicate admit.New)
+      ≡ newTold p id
   new-told fine p id =
-      rw (is-new n ss cs fine at p id) (either (heldAt n ss at (formOf (modeOf (n .cache .flags)) p id)) (λ t. rw t) (λ t. rw t))
+      rw (is-new n ss cs fine at p id) (either (heldAt n ss at (formOf (modeOf (n .cache .flags)) p id)) (λ t. rw t)
+      (λ t. rw t))
 
   -- ---- it tells one of these
-  module _ (fine : lentOf n ss cs ≡ lent.Fine) (x : Rpc) (w : Within (spoken (modeOf (n .cache .flags)) ed) body x) where
-    of-fit : (p : List ℕ) (m : RawMessage) → Nth i (x .publish) m → IsMessage (modeOf (n .cache .flags)) p m → (q : Admission)
+  module _ (fine : lentOf n ss cs ≡ lent.Fine) (x : Rpc)
+      (w : Within (spoken (modeOf (n .cache .flags)) ed) body x) where
+    of-fit : (p : List ℕ) (m : RawMessage) → Nth i (x .publish) m → IsMessage (modeOf (n .cache .flags)) p m
+        → (q : Admission)
         → admissionOf (n .cache .flags) p word ≡ q → Tells (admitTold (admitAnswer n ss at (planFit n at p q)))
     of-fit p m k g (admission.Unfit why) e =
-        let u : admissionOf (n .cache .flags) (m .raw) word ≡ admission.Unfit why = rw (raw-is (modeOf (n .cache .flags)) g) e in unfit fine w k u
+        let u : admissionOf (n .cache .flags) (m .raw) word
+        ≡ admission.Unfit why = rw (raw-is (modeOf (n .cache .flags)) g) e in unfit fine w k u
     of-fit p m k g (admission.Fit a z b f) e =
-        let u : admissionOf (n .cache .flags) (m .raw) word ≡ admission.Fit a z b f = rw (raw-is (modeOf (n .cache .flags)) g) e in
+        let u : admissionOf (n .cache .flags) (m .raw) word
+        ≡ admission.Fit a z b f = rw (raw-is (modeOf (n .cache .flags)) g) e in
         either (ltb at (n .clock)) (λ t. rw t (back fine w k u (ltb-true at (n .clock) t)))
         (λ t. rw (t, new-told fine p (idBytes p a z b f))
         (subst (λ (l : List ℕ). Tells (newTold l (idBytes p a z b f))) (raw-is (modeOf (n .cache .flags)) g)
         (says {id = idBytes p a z b f} fine w k u (ltb-false at (n .clock) t)
         (id-named (modeOf (n .cache .flags)) a z b f g (fit-parts (n .cache .flags) p word a z b f e)))))
 
-    of-at : (r : MessageAt) → messageAt (modeOf (n .cache .flags)) body i ≡ r → Tells (admitTold (admitAnswer n ss at (planAt n at word body r)))
+    of-at : (r : MessageAt) → messageAt (modeOf (n .cache .flags)) body i ≡ r
+        → Tells (admitTold (admitAnswer n ss at (planAt n at word body r)))
     of-at (Count k) e = let m = message-missing i k (w .means) e in rw (m .0) (no-such fine w (m .1))
     of-at (At a z) e =
         let f = message-found i a z (w .means) e in
         of-fit (between body a z) (f .0) (f .1) (f .2) (admissionOf (n .cache .flags) (between body a z) word) refl
 
-  of-body : Bytes body → lentOf n ss cs ≡ lent.Fine → (r : Checked) → acceptOf (spoken (modeOf (n .cache .flags)) ed) body ≡ r
+  of-body : Bytes body → lentOf n ss cs ≡ lent.Fine → (r : Checked)
+      → acceptOf (spoken (modeOf (n .cache .flags)) ed) body ≡ r
       → Tells (admitTold (admitAnswer n ss at (planBody n at word body i r)))
   of-body b fine (checked.Refused why) e =
       refuses fine (refused-exactly (spoken (modeOf (n .cache .flags)) ed) body (refusalTold why) b .0 (why, e, refl))
   of-body b fine checked.Fine e =
-      let x = taken-exactly (spoken (modeOf (n .cache .flags)) ed) body b .0 e in of-at fine (x .0) (x .1) (messageAt (modeOf (n .cache .flags)) body i) refl
+      let x = taken-exactly (spoken (modeOf (n .cache .flags)) ed) body b .0 e in of-at fine (x .0) (x .1)
+      (messageAt (modeOf (n .cache .flags)) body i) refl
 
   of-lent : Bytes body → (l : Lent) → lentOf n ss cs ≡ l → Tells (admitTold (admitAnswer n ss at
-      (onLent (λ (why : Fault). no (admit.Faulty why)) l (planBody n at word body i (acceptOf (spoken (modeOf (n .cache .flags)) ed) body)))))
+      (onLent (λ (why : Fault). no (admit.Faulty why)) l
+      (planBody n at word body i (acceptOf (spoken (modeOf (n .cache .flags)) ed) body)))))
   of-lent b (lent.Faulty why) e = faulty e
   of-lent b lent.Fine e = of-body b e (acceptOf (spoken (modeOf (n .cache .flags)) ed) body) refl
 
@@ -205,7 +219,12 @@ module _ (n : Node) (ss cs : List ℕ) (ed : Edition) (body : List ℕ) (i : ℕ
   only b (faulty e) = rw e
   only b {a} (refuses fine r) =
       let g = refused-exactly (spoken (modeOf (n .cache .flags)) ed) body a b .1 r in rw (fine, g .1) (g .2)
-  only b (no-such fine w l) = rw (fine, accepted w, none-in i (messageAt (modeOf (n .cache .flags)) body i) (w .means) l refl)
+  only b (no-such fine w l) = rw (
+    fine,
+    accepted w,
+    none-in i (messageAt (modeOf (n .cache .flags)) body i)
+        (w .means) l refl,
+  )
   only b (unfit fine w k e) =
       let f = found-in i (messageAt (modeOf (n .cache .flags)) body i) (w .means) k refl in
       let u = rw (raw-is (modeOf (n .cache .flags)) (f .3)) at e in
@@ -217,7 +236,8 @@ module _ (n : Node) (ss cs : List ℕ) (ed : Edition) (body : List ℕ) (i : ℕ
   only b (says {a = a} {e = z} {b = c} {f = d} {id = id} fine w k e l q) =
       let f = found-in i (messageAt (modeOf (n .cache .flags)) body i) (w .means) k refl in
       let p = between body (f .0) (f .1) in
-      let u : admissionOf (n .cache .flags) p word ≡ admission.Fit a z c d = rw (raw-is (modeOf (n .cache .flags)) (f .3)) at e in
+      let u : admissionOf (n .cache .flags) p word ≡ admission.Fit a z c d = rw
+      (raw-is (modeOf (n .cache .flags)) (f .3)) at e in
       let o : the-id id ≡ the-id (idBytes p a z c d) = sym q ∙ id-named (modeOf (n .cache .flags)) a z c d (f .3)
       (fit-parts (n .cache .flags) p word a z c d u) in
       let s : idBytes p a z c d ≡ id = cc in

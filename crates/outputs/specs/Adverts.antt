@@ -9,6 +9,7 @@ use native.Mathlib.Omega.{arith}
 use lib.ListN.{length, take}
 use lib.Dec.{leb}
 use borrow.Author.Tests.{leb-true, leb-false, le-ltb}
+use Rattle.basis.specs.declared.Mode.{Mode}
 use Rattle.basis.specs.declared.Edition.the-variants.{V11}
 use Rattle.basis.specs.declared.Dialect.{Dialect}
 use Rattle.basis.specs.Dialect.{modeOf, spoken}
@@ -77,11 +78,13 @@ module _ (b : Node) (bs bc topic : List ℕ) (windows : ℕ) (fine : lentOf b bs
   pub advert-taken : (d : Dialect) → acceptOf d (advertiseBytes b bc topic windows) ≡ Fine
   advert-taken d = taken (advert-rpc .1 d)
 
-  -- and offers what is told of
-  pub advert-offers : offered (modeOf (b .cache .flags)) (advertiseBytes b bc topic windows) ≡ toldOf topic windows (gatewayIn b bs bc)
-  advert-offers =
-      offered-once (advert-rpc .1 (spoken (modeOf (b .cache .flags)) V11) .means) ∙ ap once (advert-rpc .2)
-      ∙ once-same (toldOf topic windows (gatewayIn b bs bc)) (told-distinct (modeOf (b .cache .flags)) topic windows (gatewayIn b bs bc .cache))
+  -- and offers what is told of, whatever the reader's mode
+  pub advert-offers : (mode : Mode) → offered mode (advertiseBytes b bc topic windows)
+      ≡ toldOf topic windows (gatewayIn b bs bc)
+  advert-offers mode =
+      offered-once (advert-rpc .1 (spoken mode V11) .means) ∙ ap once (advert-rpc .2)
+      ∙ once-same (toldOf topic windows (gatewayIn b bs bc))
+      (told-distinct (modeOf (gatewayIn b bs bc .flags)) topic windows (gatewayIn b bs bc .cache))
 
   -- ---- it stands at the front of a buffer that has the room
   bytes-left : (out : List ℕ) (k : ℕ) → advertiseAnswer b bs bc topic windows out ≡ advertise.Bytes k
@@ -101,11 +104,11 @@ module _ (b : Node) (bs bc topic : List ℕ) (windows : ℕ) (fine : lentOf b bs
   -- an id is listed exactly where it is among those that the written advertisement offers, in every buffer with room
   pub listed-written : (out : List ℕ) (a : Advertised) (left : List ℕ) → Advertises b bs bc topic windows out a left
       → (k : ℕ) → a .answer ≡ advertise.Bytes k
-      → (id : List ℕ) (r : Explained) → Explains b bs bc id topic windows r
-      → (r .answer ≡ explain.Why offer.Listed) ↔ (among id (offered (modeOf (b .cache .flags)) (take k left)) ≡ true)
-  listed-written out a left says k e id r why =
-      let w : offered (modeOf (b .cache .flags)) (take k left) ≡ toldOf topic windows (gatewayIn b bs bc) =
-      ap (λ (l : List ℕ). offered (modeOf (b .cache .flags)) (take k l)) (says .buffer)
-      ∙ ap (offered (modeOf (b .cache .flags))) (bytes-left out k (sym (says .answer) ∙ e)) ∙ advert-offers in
+      → (mode : Mode) (id : List ℕ) (r : Explained) → Explains b bs bc id topic windows r
+      → (r .answer ≡ explain.Why offer.Listed) ↔ (among id (offered mode (take k left)) ≡ true)
+  listed-written out a left says k e mode id r why =
+      let w : offered mode (take k left) ≡ toldOf topic windows (gatewayIn b bs bc) =
+      ap (λ (l : List ℕ). offered mode (take k l)) (says .buffer)
+      ∙ ap (offered mode) (bytes-left out k (sym (says .answer) ∙ e)) ∙ advert-offers mode in
       let x = explain-exactly b bs bc id topic windows fine short r why .exactly .listed in
       (λ h. ap (among id) w ∙ x .0 h, λ h. x .1 (sym (ap (among id) w) ∙ h))

@@ -46,7 +46,8 @@ subs : {X : Type 0} (R : List ℕ → X → Type 0) (n : ℕ) {ds : List (List �
 subs R n {ds} {xs} p = subst (λ (l : List (List ℕ)). Pairs R l xs) (sym (bytes-here n ds)) p
 
 -- one field
-one-field : (mode : Mode) (n : ℕ) → 1 ≤ n → n ≤ 536870911 → (d : List ℕ) → Sized d → Body mode (bytesField n d) (bytesEntries n (d ∷ []))
+one-field : (mode : Mode) (n : ℕ) → 1 ≤ n → n ≤ 536870911 → (d : List ℕ) → Sized d
+    → Body mode (bytesField n d) (bytesEntries n (d ∷ []))
 one-field mode n l m d z = subst (λ (s : List ℕ). Body mode s (bytesEntries n (d ∷ []))) (append-nil (bytesField n d))
     (bytes-body mode n l m (d ∷ []) (z and none-left))
 
@@ -62,10 +63,12 @@ nothing-means d = record { means = is-rpc no-fields no-pairs no-pairs no-pairs; 
 abbrev pub published : List RawMessage → Rpc
 published ms = record { subscriptions = []; publish = ms; control = none }
 
-pub messages-mean : (d : Dialect) {ds : List (List ℕ)} {ms : List RawMessage} → Each Sized ds → Pairs (IsMessage (d .mode)) ds ms
+pub messages-mean : (d : Dialect) {ds : List (List ℕ)} {ms : List RawMessage} → Each Sized ds
+    → Pairs (IsMessage (d .mode)) ds ms
     → IsRpc d (repeated (bytesField 2) ds) (published ms)
 messages-mean d {ds} {ms} z p =
-    is-rpc (bytes-body (d .mode) 2 (omega arith) (omega arith) ds z) (no-subs (IsSubOpts (d .mode)) 2 1 ds refl) (subs (IsMessage (d .mode)) 2 p)
+    is-rpc (bytes-body (d .mode) 2 (omega arith) (omega arith) ds z) (no-subs (IsSubOpts (d .mode)) 2 1 ds refl)
+    (subs (IsMessage (d .mode)) 2 p)
     (no-subs (IsControl d) 2 3 ds refl)
 
 -- ---- a control, and in it one IHAVE or one IWANT
@@ -79,7 +82,8 @@ pub control-means : {d : Dialect} {s : List ℕ} {c : ControlMessage} → Sized 
     → IsRpc d (bytesField 3 s) (controlled c)
 control-means {d} {s} {c} z p =
     let ds = s ∷ [] in
-    is-rpc (one-field (d .mode) 3 (omega arith) (omega arith) s z) (no-subs (IsSubOpts (d .mode)) 3 1 ds refl) (no-subs (IsMessage (d .mode)) 3 2 ds refl)
+    is-rpc (one-field (d .mode) 3 (omega arith) (omega arith) s z) (no-subs (IsSubOpts (d .mode)) 3 1 ds refl)
+    (no-subs (IsMessage (d .mode)) 3 2 ds refl)
     (subs (IsControl d) 3 (p paired no-pairs))
 
 pub ihave-means : (d : Dialect) {s : List ℕ} {h : ControlIHave} → Sized s → IsIHave (d .mode) s h
@@ -88,7 +92,8 @@ ihave-means d {s} {h} z p =
     let ds = s ∷ [] in
     is-control (one-field (d .mode) 1 (omega arith) (omega arith) s z) (subs (IsIHave (d .mode)) 1 (p paired no-pairs))
     (no-subs (IsIWant (d .mode)) 1 2 ds refl)
-    (no-subs (IsGraft (d .mode)) 1 3 ds refl) (no-subs (IsPrune (d .mode)) 1 4 ds refl) (no-idontwants (d .mode) (d .edition) 1 ds refl)
+    (no-subs (IsGraft (d .mode)) 1 3 ds refl) (no-subs (IsPrune (d .mode)) 1 4 ds refl)
+    (no-idontwants (d .mode) (d .edition) 1 ds refl)
 
 pub iwant-means : (d : Dialect) {s : List ℕ} {w : ControlIWant} → Sized s → IsIWant (d .mode) s w
     → IsControl d (bytesField 2 s) (oneIWant w)
@@ -96,7 +101,8 @@ iwant-means d {s} {w} z p =
     let ds = s ∷ [] in
     is-control (one-field (d .mode) 2 (omega arith) (omega arith) s z) (no-subs (IsIHave (d .mode)) 2 1 ds refl)
     (subs (IsIWant (d .mode)) 2 (p paired no-pairs))
-    (no-subs (IsGraft (d .mode)) 2 3 ds refl) (no-subs (IsPrune (d .mode)) 2 4 ds refl) (no-idontwants (d .mode) (d .edition) 2 ds refl)
+    (no-subs (IsGraft (d .mode)) 2 3 ds refl) (no-subs (IsPrune (d .mode)) 2 4 ds refl)
+    (no-idontwants (d .mode) (d .edition) 2 ds refl)
 
 -- a topic and ids
 pub topic-ids : (mode : Mode) (topic : List ℕ) (ids : List (List ℕ)) → Utf8 topic → Sized topic → Each Sized ids
@@ -108,7 +114,7 @@ topic-ids mode topic ids u z w =
     let d1 : bytesIn 1 (a ++ b) ≡ topic ∷ [] =
     found 1 a b (topic ∷ []) [] (bytes-here 1 (topic ∷ [])) (bytes-there 2 1 refl ids) in
     let d2 : bytesIn 2 (a ++ b) ≡ ids = found 2 a b [] ids (bytes-there 1 2 refl (topic ∷ [])) (bytes-here 2 ids) in
-    let g = body-append mode (one-field mode 1 (omega arith) (omega arith) topic z)
+    let g = body-append (one-field mode 1 (omega arith) (omega arith) topic z)
     (bytes-body mode 2 (omega arith) (omega arith) ids w) in
     subst (IsIHave mode (bytesField 1 topic ++ repeated (bytesField 2) ids))
     (ap₂ (λ (y : Option (List ℕ)) (i : List (List ℕ)). record { «topic_id» = y; «message_ids» = i }) (ap last d1) d2)
@@ -162,7 +168,8 @@ request-means d ids h =
     let n = ap length e in
     let a = field-holds 3 (bytesField 2 i) in
     let b = field-holds 2 i in
-    rw e (control-means (omega arith) (iwant-means d (omega arith) (ids-alone (d .mode) ids (fields-sized 1 ids (omega arith)))))
+    rw e (control-means (omega arith) (iwant-means d (omega arith)
+    (ids-alone (d .mode) ids (fields-sized 1 ids (omega arith)))))
 
 -- ---- how many records they have
 pub records-told : (topic : List ℕ) (ids : List (List ℕ)) → recordsIn (advertisement topic ids) ≡ 1 + length ids

@@ -52,7 +52,8 @@ topics-values p end = refl
 topics-values p (refused why) = refl
 topics-values p (f then w) = rw (topics-values p w)
 
-pub topics-mean : (mode : Mode) {p : List ℕ} {m : RawMessage} → IsMessage mode p m → (m .«topic_ids» ≡ topicsOf mode p) × Each Utf8 (topicsOf mode p)
+pub topics-mean : (mode : Mode) {p : List ℕ} {m : RawMessage} → IsMessage mode p m → (m .«topic_ids» ≡ topicsOf mode p)
+    × Each Utf8 (topicsOf mode p)
 unfolding topicsOf
 topics-mean mode (is-message {s = p} {es = es} g u) =
     let e = topics-values p (fieldsOf mode p) ∙ values-body mode 4 p es g in

@@ -58,13 +58,13 @@ use Rattle.outputs.specs.Requested.{request-within}
 use Rattle.outputs.specs.Advertised.{advertise-means, no-topic-no-bytes}
 
 -- ---- bytes at the front of a buffer
-front : (x : Rpc) (s out : List ℕ) → s ≡ encodeRpc x → ((d : Dialect) → Within d s x) → length s ≤ length out
-    → Writes x (length s) out (sets out 0 s)
-front x s out e w h =
-    let p : take (length s) (sets out 0 s) ≡ s = put-sets out 0 s (omega arith) in
+at-front : (s out : List ℕ) → length s ≤ length out → take (length s) (sets out 0 s) ≡ s
+at-front s out h = put-sets out 0 s (omega arith)
+
+front : (x : Rpc) (s out : List ℕ) → s ≡ encodeRpc x → length s ≤ length out → Writes x (length s) out (sets out 0 s)
+front x s out e h =
     record {
-      means = λ d. rw p (w d);
-      bytes = p ∙ e;
+      bytes = at-front s out h ∙ e;
       count = ap length e;
       fits = h;
       rest = drop-sets out 0 s (length s) (omega arith);
@@ -117,17 +117,18 @@ first-room ms out needed n =
     ∙ reply-short (n .first) (n .others) out (none-fits (n .first) (n .others) out l) ∙ ap serve.Room (sym (n .field))
 
 -- of messages whose reply is a body
-module _ (ms : List (List ℕ)) (out : List ℕ) (r : Replies ms out) where
-  served : (k w l : ℕ) → replyTo ms out ≡ serve.Reply k w l → ReplyIs ms out (sets out 0 (replyBytes ms out)) k w l
+module _ (mode : Mode) (ms : List (List ℕ)) (out : List ℕ) (r : Replies mode ms out) where
+  served : (k w l : ℕ) → replyTo ms out ≡ serve.Reply k w l
+      → ReplyIs mode ms out (sets out 0 (replyBytes ms out)) k w l
   unfolding roomOf
   served k w l h =
       let c = serve-counts ms out k w l h in
       let i = reply-within ms out in
-      let f : Writes (r .rpc) (length (replyBytes ms out)) out (sets out 0 (replyBytes ms out)) =
-      front (r .rpc) (replyBytes ms out) out (r .encoded) (r .within) (omega arith) in
+      let h : length (replyBytes ms out) ≤ length out = omega arith in
       record {
         reply = r .rpc;
-        writes = rw (c .written) f;
+        writes = rw (c .written) (front (r .rpc) (replyBytes ms out) out (r .encoded) h);
+        means = λ d a. rw (c .written, at-front (replyBytes ms out) out h) (r .within d a);
         no-subscriptions = r .no-subscriptions;
         no-control = r .no-control;
         messages = rw (c .served) (r .messages);
@@ -137,7 +138,7 @@ module _ (ms : List (List ℕ)) (out : List ℕ) (r : Replies ms out) where
         next = c .next;
       }
 
-  reply-exactly : ServeExactly ms out (serveTold (replyTo ms out)) (sets out 0 (replyBytes ms out))
+  reply-exactly : ServeExactly mode ms out (serveTold (replyTo ms out)) (sets out 0 (replyBytes ms out))
   reply-exactly =
       let a = replyFor (roomOf out) ms in
       record {
@@ -159,6 +160,7 @@ names-exactly [] x out tells on-bytes on-room w =
     record {
       no-ids = λ e. (ap tells (answer-fits [] out (omega arith)) ∙ on-bytes 0, written-fits [] out (omega arith));
       writes = λ there. absurd (there refl);
+      means = λ there. absurd (there refl);
       no-room = λ there. absurd (there refl);
     }
 names-exactly (i ∷ is) x out tells on-bytes on-room w =
@@ -167,38 +169,40 @@ names-exactly (i ∷ is) x out tells on-bytes on-room w =
       no-ids = λ e. clash (cc);
       writes = λ there h. (
         ap tells (answer-fits s out h) ∙ on-bytes (length s),
-        rw (written-fits s out h) (front x s out refl (w there) h),
+        rw (written-fits s out h) (front x s out refl h),
       );
+      means = λ there h d. rw (written-fits s out h, at-front s out h) (w there d);
       no-room = λ there h. (ap tells (answer-short s out h) ∙ on-room (length s), written-short s out h);
     }
 
--- ---- a body that is refused, of a call that tells this for each outcome of the one test, and none of 10, 1 to 7 and 11
--- where the body is taken
+-- ---- a body that is refused, of a call that tells this for each outcome of the one test, and none of 10, 1 to 7, 14
+-- to 16 and 11 where the body is taken
 module _ (d : Dialect) (body : List ℕ) (b : Bytes body) (tell : Checked → Told)
     (on-wrong : (why : Placed) → tell (checked.Refused why) ≡ refusalTold why)
-    (other : Gated (tell checked.Fine .number) → ⊥) where
-  refused-of : (c : Checked) → acceptOf d body ≡ c → (a : Told) → tell c ≡ a → Gated (a .number) → Refusal d body a
+    (other : Gated (d .mode) (tell checked.Fine .number) → ⊥) where
+  refused-of : (c : Checked) → acceptOf d body ≡ c → (a : Told) → tell c ≡ a → Gated (d .mode) (a .number)
+      → Refusal d body a
   refused-of (checked.Refused why) e a h g = refused-exactly d body a b .0 (why, e, sym (on-wrong why) ∙ h)
-  refused-of checked.Fine e a h g = absurd (other (subst (λ (t : Told). Gated (t .number)) (sym h) g))
+  refused-of checked.Fine e a h g = absurd (other (subst (λ (t : Told). Gated (d .mode) (t .number)) (sym h) g))
 
-  body-refused : (a : Told) → ((tell (acceptOf d body) ≡ a) × Gated (a .number)) ↔ Refusal d body a
+  body-refused : (a : Told) → ((tell (acceptOf d body) ≡ a) × Gated (d .mode) (a .number)) ↔ Refusal d body a
   body-refused a = (
     λ p. refused-of (acceptOf d body) refl a (p .0) (p .1),
     λ r. let g = refused-exactly d body a b .1 r in (ap tell (g .1) ∙ on-wrong (g .0) ∙ g .2, refusal-gated r),
   )
 
-ask-other : (w : Written) → Gated (askTold (asked w) .number) → ⊥
+ask-other : {mode : Mode} (w : Written) → Gated mode (askTold (asked w) .number) → ⊥
 ask-other (wrote.Bytes k) g = omega (arith, gated-bound g .0)
-ask-other (wrote.Room k) g = omega (arith, gated-bound g .1)
+ask-other (wrote.Room k) g = gated-bound g .1 .0 refl
 
-serve-other : (r : Reply) → Gated (serveTold (replied r) .number) → ⊥
+serve-other : {mode : Mode} (r : Reply) → Gated mode (serveTold (replied r) .number) → ⊥
 serve-other (sent ws ls) g = omega (arith, gated-bound g .0)
-serve-other (short needed) g = omega (arith, gated-bound g .1)
+serve-other (short needed) g = gated-bound g .1 .0 refl
 
 -- of a serve that answers r where both bodies are taken
 module _ (mode : Mode) (ed : Edition) (body second : List ℕ) (b : Bytes body) (b2 : Bytes second) (r : Reply) where
   second-refused : (a : Told)
-      → ((serveTold (serveOn (replied r) (acceptOf (spoken mode V12) second)) ≡ a) × Gated (a .number))
+      → ((serveTold (serveOn (replied r) (acceptOf (spoken mode V12) second)) ≡ a) × Gated mode (a .number))
       ↔ Refusal (spoken mode V12) second a
   second-refused =
       body-refused (spoken mode V12) second b2 (λ c. serveTold (serveOn (replied r) c)) (λ why. refl) (serve-other r)
@@ -206,13 +210,13 @@ module _ (mode : Mode) (ed : Edition) (body second : List ℕ) (b : Bytes body) 
   abbrev servedOn : Checked → Told
   servedOn c = serveTold (serveOn (serveOn (replied r) (acceptOf (spoken mode V12) second)) c)
 
-  refuses : (c : Checked) → acceptOf (spoken mode ed) body ≡ c → (a : Told) → servedOn c ≡ a → Gated (a .number)
+  refuses : (c : Checked) → acceptOf (spoken mode ed) body ≡ c → (a : Told) → servedOn c ≡ a → Gated mode (a .number)
       → ServeRefuses mode ed body second a
   refuses (checked.Refused why) e a h g = asking (refused-exactly (spoken mode ed) body a b .0 (why, e, h))
   refuses checked.Fine e a h g = declining (taken-exactly (spoken mode ed) body b .0 e .1) (second-refused a .0 (h, g))
 
   refuses-only : (a : Told) → ServeRefuses mode ed body second a
-      → (servedOn (acceptOf (spoken mode ed) body) ≡ a) × Gated (a .number)
+      → (servedOn (acceptOf (spoken mode ed) body) ≡ a) × Gated mode (a .number)
   refuses-only a (asking h) =
       let g = refused-exactly (spoken mode ed) body a b .1 h in (ap servedOn (g .1) ∙ g .2, refusal-gated h)
   refuses-only a (declining w h) = let g = second-refused a .1 h in (ap servedOn (taken w) ∙ g .0, g .1)
@@ -227,12 +231,13 @@ module _ (n : Node) (ss cs out : List ℕ) (fine : lentOf n ss cs ≡ lent.Fine)
         × (serveLeft n ss cs ed body second out
         ≡ sets out 0 (sentBytes (serveOf (wantsOf x) (unwantedOf y) (length out) (gatewayIn n ss cs))))
     serve-fixed second y v =
-        rw (← wanted-means (w .means), ← (unwanted-means (modeOf (n .cache .flags))) (v .means))
+        rw (← wanted-means (w .means), ← unwanted-means (modeOf (n .cache .flags)) (v .means))
         (serve-says n ss cs out fine ed body (taken w) second (taken v))
 
     -- and so
     pub serve-exactly : (second : List ℕ) (y : Rpc) → Bytes cs → Within (spoken (modeOf (n .cache .flags)) V12) second y
-        → ServeExactly (having (gatewayIn n ss cs) (without (unwantedOf y) (once (wantsOf x)))) out
+        → ServeExactly (modeOf (n .cache .flags)) (having (gatewayIn n ss cs)
+        (without (unwantedOf y) (once (wantsOf x)))) out
         (serveTold (serveAnswer n ss cs ed body second out)) (serveLeft n ss cs ed body second out)
     unfolding serveOf roomOf
     serve-exactly second y bytes v =
@@ -240,40 +245,46 @@ module _ (n : Node) (ss cs out : List ℕ) (fine : lentOf n ss cs ≡ lent.Fine)
         let e : cachedOf (n .cache) cs (remaining (modeOf (n .cache .flags)) body second) ≡ ms =
         cached-gateway n ss cs (remaining (modeOf (n .cache .flags)) body second)
         ∙ ap (having (gatewayIn n ss cs)) (remaining-means (w .means) (v .means)) in
-        let r : Replies ms out = rw e at (serve-means n ss cs body second out fine bytes) in
+        let r : Replies (modeOf (n .cache .flags)) ms out = rw e at (serve-means n ss cs body second out fine bytes) in
         let f = serve-fixed second y v in
         let a : serveAnswer n ss cs ed body second out ≡ replyTo ms out = f .0 in
         let b : serveLeft n ss cs ed body second out ≡ sets out 0 (replyBytes ms out) =
         f .1 ∙ ap (sets out 0) (sent-bytes ms out) in
-        rw (a, b) (reply-exactly ms out r)
+        rw (a, b) (reply-exactly (modeOf (n .cache .flags)) ms out r)
 
     -- with no second body: all that are cached and named
     pub serve-alone : Bytes cs
-        → ServeExactly (having (gatewayIn n ss cs) (once (wantsOf x))) out
+        → ServeExactly (modeOf (n .cache .flags)) (having (gatewayIn n ss cs) (once (wantsOf x))) out
         (serveTold (serveAnswer n ss cs ed body [] out)) (serveLeft n ss cs ed body [] out)
     serve-alone bytes =
-        subst (λ (l : List (List ℕ)). ServeExactly (having (gatewayIn n ss cs) l) out
+        subst (λ (l : List (List ℕ)). ServeExactly (modeOf (n .cache .flags)) (having (gatewayIn n ss cs) l) out
         (serveTold (serveAnswer n ss cs ed body [] out)) (serveLeft n ss cs ed body [] out))
-        (without-none (once (wantsOf x))) (serve-exactly [] nothing bytes (nothing-means (spoken (modeOf (n .cache .flags)) V12)))
+        (without-none (once (wantsOf x))) (serve-exactly [] nothing bytes
+        (nothing-means (spoken (modeOf (n .cache .flags)) V12)))
 
-  -- it tells 10, 1 to 7 or 11 exactly where one of the bodies is refused so, the one that asks before the second
+  -- it tells 10, 1 to 7, 14 to 16 or 11 exactly where one of the bodies is refused so, the one that asks before the
+  -- second
   pub serve-refused-exactly : (ed : Edition) (body second : List ℕ) → Bytes body → Bytes second → (a : Told)
-      → ((serveTold (serveAnswer n ss cs ed body second out) ≡ a) × Gated (a .number)) ↔ ServeRefuses (modeOf (n .cache .flags)) ed body second a
+      → ((serveTold (serveAnswer n ss cs ed body second out) ≡ a) × Gated (modeOf (n .cache .flags)) (a .number))
+      ↔ ServeRefuses (modeOf (n .cache .flags)) ed body second a
   unfolding serveAnswer
   serve-refused-exactly ed body second b b2 a =
       let r = replyFor (roomOf out) (cachedOf (n .cache) cs (remaining (modeOf (n .cache .flags)) body second)) in
       rw fine (
-        λ p. refuses (modeOf (n .cache .flags)) ed body second b b2 r (acceptOf (spoken (modeOf (n .cache .flags)) ed) body) refl a (p .0) (p .1),
+        λ p. refuses (modeOf (n .cache .flags)) ed body second b b2 r
+            (acceptOf (spoken (modeOf (n .cache .flags)) ed) body) refl a (p .0) (p .1),
         refuses-only (modeOf (n .cache .flags)) ed body second b b2 r a,
       )
 
   -- and with no second body, where the body that asks is
   pub serve-alone-refused : (ed : Edition) (body : List ℕ) → Bytes body → (a : Told)
-      → ((serveTold (serveAnswer n ss cs ed body [] out) ≡ a) × Gated (a .number)) ↔ Refusal (spoken (modeOf (n .cache .flags)) ed) body a
+      → ((serveTold (serveAnswer n ss cs ed body [] out) ≡ a) × Gated (modeOf (n .cache .flags)) (a .number))
+      ↔ Refusal (spoken (modeOf (n .cache .flags)) ed) body a
   serve-alone-refused ed body b a =
       let e = serve-refused-exactly ed body [] b (λ i. omega arith) a in (λ p. first (e .0 p), λ h. e .1 (asking h))
     where
-      first : ServeRefuses (modeOf (n .cache .flags)) ed body [] a → Refusal (spoken (modeOf (n .cache .flags)) ed) body a
+      first : ServeRefuses (modeOf (n .cache .flags)) ed body [] a
+          → Refusal (spoken (modeOf (n .cache .flags)) ed) body a
       first (asking h) = h
       first (declining w h) = absurd (refusal-within h (nothing-means (spoken (modeOf (n .cache .flags)) V12)))
 
@@ -291,18 +302,21 @@ module _ (n : Node) (ss cs out : List ℕ) (fine : lentOf n ss cs ≡ lent.Fine)
   ask-exactly ed body x w =
       let ids = lacking (gatewayIn n ss cs) (once (offersOf x)) in
       let e : unseenOf n ss (offered (modeOf (n .cache .flags)) body) ≡ ids =
-      unseen-gateway n ss cs (offered (modeOf (n .cache .flags)) body) ∙ ap (lacking (gatewayIn n ss cs)) (offered-once (w .means)) in
+      unseen-gateway n ss cs (offered (modeOf (n .cache .flags)) body)
+      ∙ ap (lacking (gatewayIn n ss cs)) (offered-once (w .means)) in
       let f = ask-fixed ed body x w in
       rw (f .0, f .1)
       (names-exactly ids (request ids) out (λ a. askTold (asked a)) (λ k. refl) (λ k. refl)
       (λ there. rw e at (request-within n ss w (λ z. there (sym e ∙ z)))))
 
   pub ask-refused-exactly : (ed : Edition) (body : List ℕ) → Bytes body → (a : Told)
-      → ((askTold (askAnswer n ss cs ed body out) ≡ a) × Gated (a .number)) ↔ Refusal (spoken (modeOf (n .cache .flags)) ed) body a
+      → ((askTold (askAnswer n ss cs ed body out) ≡ a) × Gated (modeOf (n .cache .flags)) (a .number))
+      ↔ Refusal (spoken (modeOf (n .cache .flags)) ed) body a
   unfolding askAnswer
   ask-refused-exactly ed body b a =
       let w = answer (askBytes n ss body) out in
-      rw fine (body-refused (spoken (modeOf (n .cache .flags)) ed) body b (λ c. askTold (askOn (asked w) c)) (λ why. refl) (ask-other w) a)
+      rw fine (body-refused (spoken (modeOf (n .cache .flags)) ed) body b (λ c. askTold (askOn (asked w) c))
+      (λ why. refl) (ask-other w) a)
 
   advertise-long : (topic : List ℕ) (windows : ℕ) → 1024 < length topic
       → (advertiseTold (advertiseAnswer n ss cs topic windows out) ≡ told topic-too-long (length topic ∷ []))

@@ -57,16 +57,19 @@ fields-given mode (is-message {s = p} {es = es} g u) =
     let s = slotsOf mode kind.RawMessage p in
     record {
       from = given-bytes p (s .first)
-          ∙ slot-value mode p 0 p kind.RawMessage (λ t. t .first) 1 (w .fields) es (whole-part p) message-from (w .walked)
+          ∙ slot-value mode p 0 p kind.RawMessage (λ t. t .first) 1 (w .fields) es (whole-part p) message-from
+          (w .walked)
           (w .entries) refl;
       seqno = given-bytes p (s .third)
-          ∙ slot-value mode p 0 p kind.RawMessage (λ t. t .third) 3 (w .fields) es (whole-part p) message-seqno (w .walked)
+          ∙ slot-value mode p 0 p kind.RawMessage (λ t. t .third) 3 (w .fields) es (whole-part p) message-seqno
+          (w .walked)
           (w .entries) refl;
       signature = given-bytes p (s .fourth)
           ∙ slot-value mode p 0 p kind.RawMessage (λ t. t .fourth) 5 (w .fields) es (whole-part p) message-signature
           (w .walked) (w .entries) refl;
       key = given-bytes p (s .fifth)
-          ∙ slot-value mode p 0 p kind.RawMessage (λ t. t .fifth) 6 (w .fields) es (whole-part p) message-key (w .walked)
+          ∙ slot-value mode p 0 p kind.RawMessage (λ t. t .fifth) 6 (w .fields) es (whole-part p) message-key
+          (w .walked)
           (w .entries) refl;
     }
 
@@ -166,7 +169,8 @@ module _ (flags : ℕ) {p : List ℕ} {m : RawMessage} (i : IsMessage (modeOf fl
       let g = fields-given (modeOf flags) i in
       let s = slots-inside (modeOf flags) kind.RawMessage p in
       let u = field-at p (slotsOf (modeOf flags) kind.RawMessage p .first) (x .sender) (s .first) (g .from ∙ x .from) in
-      let v = field-at p (slotsOf (modeOf flags) kind.RawMessage p .third) (x .number) (s .third) (g .seqno ∙ x .seqno) in
+      let v = field-at p (slotsOf (modeOf flags) kind.RawMessage p .third) (x .number) (s .third) (g .seqno
+      ∙ x .seqno) in
       let z = peer-size (x .peer) in
       let k = topics-mean (modeOf flags) i .0 in
       let parts : idParts (modeOf flags) p ≡ id.Parts (u .start) (u .next) (v .start) (v .next) =

@@ -2,6 +2,7 @@
 -- Theorems: Exactly, Offered, Replied, Requested, Advertised, Adverts, Admitted, FitsLaws.
 -- On the way to them: Bodies, Cached.
 pub mod Named
+pub mod Outcomes
 pub mod Offered
 pub mod Bodies
 pub mod Cached
@@ -9,7 +10,6 @@ pub mod Replied
 pub mod Requested
 pub mod Advertised
 pub mod Adverts
-pub mod Outcomes
 pub mod Exactly
 pub mod Admitted
 pub mod Fits

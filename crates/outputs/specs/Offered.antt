@@ -32,7 +32,8 @@ values-list n s (f ∷ fs) =
     let ds = bytesIn n (entriesOf s fs) in
     ap (λ (l : List (List ℕ)). cond (isBytes n f) (valueIn s f ∷ l) l) (values-list n s fs) ∙ sym (put-bytes s n f ds)
 
-pub values-body : (mode : Mode) (n : ℕ) (s : List ℕ) (es : List Entry) → Body mode s es → valuesAlong n s (fieldsOf mode s) ≡ bytesIn n es
+pub values-body : (mode : Mode) (n : ℕ) (s : List ℕ) (es : List Entry) → Body mode s es
+    → valuesAlong n s (fieldsOf mode s) ≡ bytesIn n es
 values-body mode n s es g =
     let w = body-walks mode s es g in
     ap (valuesAlong n s) (w .walked) ∙ values-list n s (w .fields) ∙ ap (bytesIn n) (w .entries)
@@ -75,18 +76,19 @@ ihave-ids mode _ _ (is-ihave {s = s} {es = es} g u) = path-body mode 2 [] s es g
 iwant-ids : (mode : Mode) (d : List ℕ) (w : ControlIWant) → IsIWant mode d w → atPath mode (1 ∷ []) d ≡ w .«message_ids»
 iwant-ids mode _ _ (is-iwant {s = s} {es = es} g) = path-body mode 1 [] s es g ∙ each-itself mode (bytesIn 1 es)
 
-idontwant-ids : (mode : Mode) (d : List ℕ) (w : ControlIDontWant) → IsIDontWant mode d w → atPath mode (1 ∷ []) d ≡ w .«message_ids»
+idontwant-ids : (mode : Mode) (d : List ℕ) (w : ControlIDontWant) → IsIDontWant mode d w
+    → atPath mode (1 ∷ []) d ≡ w .«message_ids»
 idontwant-ids mode _ _ (is-idontwant {s = s} {es = es} g) = path-body mode 1 [] s es g ∙ each-itself mode (bytesIn 1 es)
 
-control-offers : {d : Dialect} (s : List ℕ) (c : ControlMessage) → IsControl d s c
+control-offers : (d : Dialect) (s : List ℕ) (c : ControlMessage) → IsControl d s c
     → atPath (d .mode) (1 ∷ 2 ∷ []) s ≡ ihaveIds (c .ihave)
-control-offers _ _ (is-control {s = s} {es = es} g h1 h2 h3 h4 h5) =
+control-offers d _ _ (is-control {s = s} {es = es} g h1 h2 h3 h4 h5) =
     path-body (d .mode) 1 (2 ∷ []) s es g ∙ in-pairs ihaveIds (λ h. h .«message_ids») refl
     (λ h hs. refl) (atPath (d .mode) (2 ∷ [])) (ihave-ids (d .mode)) h1
 
-control-wants : {d : Dialect} (s : List ℕ) (c : ControlMessage) → IsControl d s c
+control-wants : (d : Dialect) (s : List ℕ) (c : ControlMessage) → IsControl d s c
     → atPath (d .mode) (2 ∷ 1 ∷ []) s ≡ iwantIds (c .iwant)
-control-wants _ _ (is-control {s = s} {es = es} g h1 h2 h3 h4 h5) =
+control-wants d _ _ (is-control {s = s} {es = es} g h1 h2 h3 h4 h5) =
     path-body (d .mode) 2 (1 ∷ []) s es g ∙ in-pairs iwantIds (λ w. w .«message_ids») refl
     (λ w ws. refl) (atPath (d .mode) (1 ∷ [])) (iwant-ids (d .mode)) h2
 
@@ -113,19 +115,21 @@ declines-join c (some d) =
     all-append idontwantIds (λ w. w .«message_ids») refl (λ w ws. refl) (c .idontwant) (d .idontwant)
 
 -- ---- the ids in the IHAVEs of a body, in its IWANTs, and in the IDONTWANTs of one that is read in 1.2
-pub offered-means : {d : Dialect} {s : List ℕ} {x : Rpc} → IsRpc d s x → atPath (d .mode) (3 ∷ 1 ∷ 2 ∷ []) s ≡ offersOf x
-offered-means (is-rpc {s = s} {es = es} g h1 h2 h3) =
+pub offered-means : {d : Dialect} {s : List ℕ} {x : Rpc} → IsRpc d s x
+    → atPath (d .mode) (3 ∷ 1 ∷ 2 ∷ []) s ≡ offersOf x
+offered-means {d} (is-rpc {s = s} {es = es} g h1 h2 h3) =
     path-body (d .mode) 3 (1 ∷ 2 ∷ []) s es g
     ∙ in-pairs (λ cs. offersIn (joined cs)) (λ c. ihaveIds (c .ihave)) refl (λ c cs. offers-join c (joined cs))
-    (atPath (d .mode) (1 ∷ 2 ∷ [])) control-offers h3
+    (atPath (d .mode) (1 ∷ 2 ∷ [])) (control-offers d) h3
 
 pub wanted-means : {d : Dialect} {s : List ℕ} {x : Rpc} → IsRpc d s x → atPath (d .mode) (3 ∷ 2 ∷ 1 ∷ []) s ≡ wantsOf x
-wanted-means (is-rpc {s = s} {es = es} g h1 h2 h3) =
+wanted-means {d} (is-rpc {s = s} {es = es} g h1 h2 h3) =
     path-body (d .mode) 3 (2 ∷ 1 ∷ []) s es g
     ∙ in-pairs (λ cs. wantsIn (joined cs)) (λ c. iwantIds (c .iwant)) refl (λ c cs. wants-join c (joined cs))
-    (atPath (d .mode) (2 ∷ 1 ∷ [])) control-wants h3
+    (atPath (d .mode) (2 ∷ 1 ∷ [])) (control-wants d) h3
 
-pub unwanted-means : (mode : Mode) {s : List ℕ} {x : Rpc} → IsRpc (spoken mode V12) s x → unwantedIn mode s ≡ unwantedOf x
+pub unwanted-means : (mode : Mode) {s : List ℕ} {x : Rpc} → IsRpc (spoken mode V12) s x
+    → unwantedIn mode s ≡ unwantedOf x
 unfolding unwantedIn
 unwanted-means mode (is-rpc {s = s} {es = es} g h1 h2 h3) =
     path-body mode 3 (5 ∷ 1 ∷ []) s es g
@@ -145,7 +149,7 @@ wanted-once h = ap once (wanted-means h)
 pub remaining-means : {d : Dialect} {s t : List ℕ} {x y : Rpc} → IsRpc d s x → IsRpc (spoken (d .mode) V12) t y
     → remaining (d .mode) s t ≡ without (unwantedOf y) (once (wantsOf x))
 unfolding remaining
-remaining-means g h = ap₂ without (unwanted-means (d .mode) h) (wanted-once g)
+remaining-means {d} g h = ap₂ without (unwanted-means (d .mode) h) (wanted-once g)
 
 -- ---- fewer ids than records: ids that are offered stand in an IHAVE, which is one record more
 offers-in : (o : Option ControlMessage) → 1 ≤ length (offersIn o) → 1 + length (offersIn o) ≤ someRecords o

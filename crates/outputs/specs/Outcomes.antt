@@ -1,5 +1,6 @@
 -- What advertise, ask and serve answer (`t`, the scope's number and the values beside it) and how they leave the lent
--- buffer (`left` of `out`), in the scope's words. What is written means the same in every dialect.
+-- buffer (`left` of `out`), in the scope's words. What advertise and ask write means the same in every dialect; a
+-- reply, whose messages stand as they are cached, in every edition under the node's mode, and under that of groups.
 use Prim.Native.Nat.{ℕ, _+_, _≤_, _<_}
 use mathlib.Core.Path.{_≡_}
 use mathlib.Core.List.{List, [], _∷_, map}
@@ -7,6 +8,7 @@ use mathlib.Core.Option.{none}
 use mathlib.Core.Logic.{_↔_, _⊎_}
 use lib.ListN.{length, take, drop}
 use Rattle.basis.specs.declared.Mode.{Mode}
+use Rattle.basis.specs.declared.Mode.the-variants.{Groups}
 use Rattle.basis.specs.declared.Edition.{Edition}
 use Rattle.basis.specs.declared.Edition.the-variants.{V12}
 use Rattle.basis.specs.declared.Dialect.{Dialect}
@@ -24,9 +26,7 @@ use Rattle.node.specs.Gateway.{advertisement, replyRoom}
 
 -- ---- the buffer as it is left: k bytes at the front that are an RPC, and after them what was there
 pub record Writes (x : Rpc) (k : ℕ) (out left : List ℕ) : Type 0 where
-  -- they are a body within capacity that means x
-  pub means : (d : Dialect) → Within d (take k left) x
-  -- and, of the bodies that do, the one that `Rpc::encode` writes
+  -- the bytes that `Rpc::encode` writes
   pub bytes : take k left ≡ encodeRpc x
   pub count : k ≡ length (encodeRpc x)
   pub fits : k ≤ length out
@@ -40,6 +40,9 @@ pub record NamesExactly (ids : List (List ℕ)) (x : Rpc) (out : List ℕ) (t : 
   -- the RPC, where the buffer has room for it
   pub writes : (ids ≡ [] → ⊥) → length (encodeRpc x) ≤ length out
       → (t ≡ done (length (encodeRpc x) ∷ [])) × Writes x (length (encodeRpc x)) out left
+  -- they are a body within capacity that means x, in every dialect: they hold no groups
+  pub means : (ids ≡ [] → ⊥) → length (encodeRpc x) ≤ length out → (d : Dialect)
+      → Within d (take (length (encodeRpc x)) left) x
   -- else 12 with its length, and nothing is changed
   pub no-room : (ids ≡ [] → ⊥) → length out < length (encodeRpc x)
       → (t ≡ told short-room (length (encodeRpc x) ∷ [])) × (left ≡ out)
@@ -54,12 +57,20 @@ pub record AdvertiseExactly (topic : List ℕ) (ids : List (List ℕ)) (out : Li
   -- none where the topic isn't UTF-8
   pub not-text : (Utf8 topic → ⊥) → ids ≡ []
 
+-- ---- what is read in a mode is read in the same mode, and in that of groups
+pub data AsWide (mode : Mode) : Mode → Type 0 where
+  itself : AsWide mode mode
+  groups : AsWide mode Groups
+
 -- ---- serve: `ms` are the cached messages that its IWANTs name, each once, in order of first mention, without those
--- whose ids a second body's IDONTWANTs name
+-- whose ids a second body's IDONTWANTs name; `mode` is the node's
 -- a reply of k bytes, w messages written and l left
-pub record ReplyIs (ms : List (List ℕ)) (out left : List ℕ) (k w l : ℕ) : Type 0 where
+pub record ReplyIs (mode : Mode) (ms : List (List ℕ)) (out left : List ℕ) (k w l : ℕ) : Type 0 where
   pub reply : Rpc
   pub writes : Writes reply k out left
+  -- it is a body within capacity that means that, in every edition. Its messages may hold groups: then a reader in the
+  -- first mode refuses it
+  pub means : (d : Dialect) → AsWide mode (d .mode) → Within d (take k left) reply
   pub no-subscriptions : reply .subscriptions ≡ []
   pub no-control : reply .control ≡ none
   -- its messages are the first w of those, byte for byte
@@ -79,8 +90,8 @@ pub record NoRoom (ms : List (List ℕ)) (out : List ℕ) (needed : ℕ) : Type 
   pub field : needed ≡ length (bytesField 2 first)
   pub passes : replyRoom (length out) < needed
 
-pub record ServeExactly (ms : List (List ℕ)) (out : List ℕ) (t : Told) (left : List ℕ) : Type 0 where
-  pub reply : (k w l : ℕ) → t ≡ done (k ∷ w ∷ l ∷ []) → ReplyIs ms out left k w l
+pub record ServeExactly (mode : Mode) (ms : List (List ℕ)) (out : List ℕ) (t : Told) (left : List ℕ) : Type 0 where
+  pub reply : (k w l : ℕ) → t ≡ done (k ∷ w ∷ l ∷ []) → ReplyIs mode ms out left k w l
   -- 12, and nothing is changed
   pub no-room : (needed : ℕ) → (t ≡ told short-room (needed ∷ [])) ↔ NoRoom ms out needed
   pub unchanged : (needed : ℕ) → t ≡ told short-room (needed ∷ []) → left ≡ out
@@ -88,7 +99,9 @@ pub record ServeExactly (ms : List (List ℕ)) (out : List ℕ) (t : Told) (left
   pub no-other : ((k : ℕ) × (w : ℕ) × (l : ℕ) × (t ≡ done (k ∷ w ∷ l ∷ [])))
       ⊎ ((needed : ℕ) × (t ≡ told short-room (needed ∷ [])))
 
--- 10, 1 to 7 or 11 of the body that asks, in the call's edition; or, where that is taken, of the second body, in 1.2
+-- 10, 1 to 7 and 14 to 16, or 11 of the body that asks, in the call's edition; or, where that is taken, of the second
+-- body, in 1.2
 pub data ServeRefuses (mode : Mode) (ed : Edition) (body second : List ℕ) (t : Told) : Type 0 where
-  asking : Refusal (spoken mode ed) body t → ServeRefuses ed body second t
-  declining : {x : Rpc} → Within (spoken mode ed) body x → Refusal (spoken mode V12) second t → ServeRefuses ed body second t
+  asking : Refusal (spoken mode ed) body t → ServeRefuses mode ed body second t
+  declining : {x : Rpc} → Within (spoken mode ed) body x → Refusal (spoken mode V12) second t
+      → ServeRefuses mode ed body second t

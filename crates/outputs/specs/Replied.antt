@@ -1,6 +1,6 @@
--- A reply to a body is, in every dialect, a body that publishes cached messages, byte for byte, as many as the room
--- has, from the first on; and it is canonical. What is answered counts them, and those that are left. A message that a
--- second body declines is in neither count.
+-- A reply to a body is, in every edition under the node's mode, and under that of groups, a body that publishes cached
+-- messages, byte for byte, as many as the room has, from the first on; and it is canonical. What is answered counts
+-- them, and those that are left. A message that a second body declines is in neither count.
 use Prim.Native.Nat.{ℕ, suc, _+_, _-_, _≤_, _<_}
 use mathlib.Core.Path.{_≡_, refl, sym, ap, _∙_}
 use mathlib.Core.Bool.{true}
@@ -12,6 +12,7 @@ use lib.Seq.{length-take-le}
 use lib.Dec.{ltb, eqb}
 use borrow.Author.Tests.{ltb-true, eqb-true, eqb-false}
 use Rattle.basis.specs.declared.Mode.{Mode}
+use Rattle.basis.specs.declared.Mode.the-variants.{Plain, Groups}
 use Rattle.basis.specs.declared.Edition.{Edition}
 use Rattle.basis.specs.declared.Edition.the-variants.{V12}
 use Rattle.basis.specs.declared.Dialect.{Dialect}
@@ -28,9 +29,10 @@ use Rattle.rows.specs.StoreLaws.{index-among}
 use Rattle.protobuf.specs.declared.Checked.the-variants as checked
 use Rattle.protobuf.specs.Encode.{bytesField}
 use Rattle.rpc.specs.Rpc.{RawMessage, Rpc}
-use Rattle.rpc.specs.Grammar.{Each, none-left, _and_, IsRpc}
+use Rattle.rpc.specs.Grammar.{Each, none-left, _and_, Pairs, no-pairs, _paired_, IsMessage, IsRpc}
 use Rattle.rpc.specs.Encode.{repeated, encodeRpc}
 use Rattle.meaning.specs.Size.{recordsIn}
+use Rattle.meaning.specs.Modes.{plain-message}
 use Rattle.schema.specs.Accept.{acceptOf}
 use Rattle.canon.specs.Canon.{canonBody}
 use Rattle.canon.specs.Written.{canon-written}
@@ -50,6 +52,7 @@ use Rattle.node.specs.Calls.{replyTo, serveAnswer}
 use Rattle.node.specs.ReplyLaws.{reply-bytes, served-le, reply-within, reply-short, reply-some}
 use Rattle.node.specs.Laws.{serve-says}
 use Rattle.node.specs.StateLaws.{fine-tests as node-tests}
+use Rattle.outputs.specs.Outcomes.{AsWide, itself, groups}
 use Rattle.outputs.specs.Bodies.{published, messages-mean}
 use Rattle.outputs.specs.Cached.{each-take, Message, row-message, all-messages}
 
@@ -99,16 +102,17 @@ module _ (c : MessageCache) (st : List ℕ) (t : Tests c st) (is : List (List �
       rows-each (messageIn (c .len) st) (ringOf c) held is (λ j h. row-message c st t b j (rw held-count at h))
 
 -- ---- the reply
-pub record Replies (ms : List (List ℕ)) (out : List ℕ) : Type 0 where
+pub record Replies (mode : Mode) (ms : List (List ℕ)) (out : List ℕ) : Type 0 where
   pub rpc : Rpc
-  pub within : (d : Dialect) → Within d (replyBytes ms out) rpc
+  -- a message with a group is read as it stands only where groups are passed over
+  pub within : (d : Dialect) → AsWide mode (d .mode) → Within d (replyBytes ms out) rpc
   pub no-subscriptions : rpc .subscriptions ≡ []
   pub no-control : rpc .control ≡ none
   -- the messages are the first of ms, byte for byte
   pub messages : map (λ (m : RawMessage). m .raw) (rpc .publish) ≡ take (servedOf ms out) ms
   pub count : length (rpc .publish) ≡ servedOf ms out
   pub encoded : replyBytes ms out ≡ encodeRpc rpc
-  pub stays : (d : Dialect) → canonBody d (replyBytes ms out) ≡ replyBytes ms out
+  pub stays : (d : Dialect) → AsWide mode (d .mode) → canonBody d (replyBytes ms out) ≡ replyBytes ms out
 
 raw-fields : (vs : List RawMessage) → repeated (λ m. bytesField 2 (m .raw)) vs ≡ repeated (bytesField 2)
     (map (λ (m : RawMessage). m .raw) vs)
@@ -120,20 +124,34 @@ published-bytes : (vs : List RawMessage)
 unfolding encodeRpc
 published-bytes vs = append-nil (repeated (λ m. bytesField 2 (m .raw)) vs) ∙ raw-fields vs
 
-pub replies : (mode : Mode) (ms : List (List ℕ)) (out : List ℕ) → Each (Message mode) ms → length ms ≤ 64 → Replies ms out
+plain-messages : {ds : List (List ℕ)} {ms : List RawMessage} → Pairs (IsMessage Plain) ds ms
+    → Pairs (IsMessage Groups) ds ms
+plain-messages no-pairs = no-pairs
+plain-messages (p paired ps) = plain-message p paired plain-messages ps
+
+-- messages of a mode are messages of one as wide
+as-wide : {mode other : Mode} → AsWide mode other → {ds : List (List ℕ)} {ms : List RawMessage}
+    → Pairs (IsMessage mode) ds ms → Pairs (IsMessage other) ds ms
+as-wide itself ps = ps
+as-wide {mode = Plain} groups ps = plain-messages ps
+as-wide {mode = Groups} groups ps = ps
+
+pub replies : (mode : Mode) (ms : List (List ℕ)) (out : List ℕ) → Each (Message mode) ms → length ms ≤ 64
+    → Replies mode ms out
 unfolding replyBytes servedOf recordsIn
 replies mode ms out h n =
     let k = servedOf ms out in
     let l = served-le ms out in
     let t = length-take-le k ms l in
     let r = all-messages mode (each-take k h) in
-    let w : (d : Dialect) → IsRpc d (repeated (bytesField 2) (take k ms)) (published (r .values)) =
-    λ d. messages-mean d (r .sized) (r .means) in
+    let w : (d : Dialect) → AsWide mode (d .mode) → IsRpc d (repeated (bytesField 2) (take k ms))
+    (published (r .values)) =
+    λ d a. messages-mean d (r .sized) (as-wide a (r .means)) in
     let e = ap (repeated (bytesField 2)) (r .raws) in
     record {
       rpc = published (r .values);
-      within = λ d. record {
-        means = w d;
+      within = λ d a. record {
+        means = w d a;
         small = omega (arith, reply-within ms out);
         few = omega (arith, r .few);
       };
@@ -142,20 +160,24 @@ replies mode ms out h n =
       messages = r .raws;
       count = sym (length-map (r .values) (λ (m : RawMessage). m .raw)) ∙ ap length (r .raws) ∙ t;
       encoded = sym (published-bytes (r .values) ∙ e);
-      stays = λ d. canon-written (w d) ∙ published-bytes (r .values) ∙ e;
+      stays = λ d a. canon-written (w d a) ∙ published-bytes (r .values) ∙ e;
     }
 
 module _ (n : Node) (ss cs body second out : List ℕ) (fine : lentOf n ss cs ≡ lent.Fine) (bytes : Bytes cs) where
   abbrev ms : List (List ℕ)
   ms = cachedOf (n .cache) cs (remaining (modeOf (n .cache .flags)) body second)
 
-  pub serve-means : Replies (cachedOf (n .cache) cs (remaining (modeOf (n .cache .flags)) body second)) out
+  pub serve-means : Replies (modeOf (n .cache .flags))
+      (cachedOf (n .cache) cs (remaining (modeOf (n .cache .flags)) body second)) out
   serve-means =
       let t = fine-tests (n .cache) cs (node-tests n ss cs fine .messages) in
-      replies (modeOf (n .cache .flags)) ms out (cached-messages (n .cache) cs t (remaining (modeOf (n .cache .flags)) body second) bytes)
-      (cached-few (n .cache) cs t (remaining (modeOf (n .cache .flags)) body second) (remaining-distinct (modeOf (n .cache .flags)) body second))
+      replies (modeOf (n .cache .flags)) ms out (cached-messages (n .cache) cs t
+      (remaining (modeOf (n .cache .flags)) body second) bytes)
+      (cached-few (n .cache) cs t (remaining (modeOf (n .cache .flags)) body second)
+      (remaining-distinct (modeOf (n .cache .flags)) body second))
 
-  pub serve-stays : (d : Dialect) → canonBody d (replyBytes (cachedOf (n .cache) cs (remaining (modeOf (n .cache .flags)) body second)) out)
+  pub serve-stays : (d : Dialect) → AsWide (modeOf (n .cache .flags)) (d .mode)
+      → canonBody d (replyBytes (cachedOf (n .cache) cs (remaining (modeOf (n .cache .flags)) body second)) out)
       ≡ replyBytes (cachedOf (n .cache) cs (remaining (modeOf (n .cache .flags)) body second)) out
   serve-stays = serve-means .stays
 

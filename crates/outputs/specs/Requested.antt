@@ -6,7 +6,8 @@ use mathlib.Core.List.{List, [], _∷_, _++_, append-nil}
 use mathlib.Core.Option.{Option, none, some}
 use native.Mathlib.Omega.{arith}
 use lib.ListN.{length, length-append}
-use Rattle.basis.specs.Dialect.{modeOf}
+use Rattle.basis.specs.declared.Edition.{Edition}
+use Rattle.basis.specs.Dialect.{modeOf, spoken}
 use Rattle.basis.specs.declared.Dialect.{Dialect}
 use Rattle.basis.specs.Cases.{either}
 use Rattle.basis.specs.Bytes.{Bytes}
@@ -56,7 +57,8 @@ unseen-less flags seen (i ∷ is) f =
     let r = unseen-less flags seen is f in
     either (knownIn flags seen i) (λ t. simp t (omega arith)) (λ t. simp t (omega arith))
 
-asked-less : (n : Node) (ss body : List ℕ) → Less (unseenOf n ss (offered (modeOf (n .cache .flags)) body)) (atPath (modeOf (n .cache .flags)) (3 ∷ 1 ∷ 2 ∷ []) body)
+asked-less : (n : Node) (ss body : List ℕ) → Less (unseenOf n ss (offered (modeOf (n .cache .flags)) body))
+    (atPath (modeOf (n .cache .flags)) (3 ∷ 1 ∷ 2 ∷ []) body)
 unfolding unseenOf offered
 asked-less n ss body f =
     let ids = atPath (modeOf (n .cache .flags)) (3 ∷ 1 ∷ 2 ∷ []) body in
@@ -208,34 +210,38 @@ ids-shorter w [] less = omega arith
 ids-shorter {x = x} w (i ∷ is) less = omega (arith, shorter x i is less, never-longer (w .means))
 
 -- nothing to ask for: no bytes
-pub ask-none : (n : Node) (ss body : List ℕ) → unseenOf n ss (offered (modeOf (n .cache .flags)) body) ≡ [] → askBytes n ss body ≡ []
+pub ask-none : (n : Node) (ss body : List ℕ) → unseenOf n ss (offered (modeOf (n .cache .flags)) body) ≡ []
+    → askBytes n ss body ≡ []
 unfolding askBytes
 ask-none n ss body e = let ids = unseenOf n ss (offered (modeOf (n .cache .flags)) body) in no-bytes ids (request ids) e
 
 -- ---- the request for what is offered by a body that means an RPC
-pub request-within : {d : Dialect} (n : Node) (ss : List ℕ) {body : List ℕ} {x : Rpc} → Within d body x
-    → (unseenOf n ss (offered (d .mode) body) ≡ [] → ⊥) → (e : Dialect)
-    → Within e (askBytes n ss body) (request (unseenOf n ss (offered (d .mode) body)))
+pub request-within : {ed : Edition} (n : Node) (ss : List ℕ) {body : List ℕ} {x : Rpc}
+    → Within (spoken (modeOf (n .cache .flags)) ed) body x
+    → (unseenOf n ss (offered (modeOf (n .cache .flags)) body) ≡ [] → ⊥) → (e : Dialect)
+    → Within e (askBytes n ss body) (request (unseenOf n ss (offered (modeOf (n .cache .flags)) body)))
 unfolding askBytes
 request-within n ss {body} w there =
-    of-ids w (unseenOf n ss (offered (d .mode) body)) (rw (← offered-means (w .means)) (asked-less n ss body)) there
+    of-ids w (unseenOf n ss (offered (modeOf (n .cache .flags)) body))
+    (rw (← offered-means (w .means)) (asked-less n ss body)) there
 
 -- ---- the request for what is offered by a body that is taken
-module _ (d : Dialect) (n : Node) (ss body : List ℕ) (fine : acceptOf d body ≡ Fine) (bytes : Bytes body) where
+module _ (ed : Edition) (n : Node) (ss body : List ℕ)
+    (fine : acceptOf (spoken (modeOf (n .cache .flags)) ed) body ≡ Fine) (bytes : Bytes body) where
   abbrev asked : List (List ℕ)
-  asked = unseenOf n ss (offered (d .mode) body)
+  asked = unseenOf n ss (offered (modeOf (n .cache .flags)) body)
 
-  abbrev meant : (x : Rpc) × Within d body x
-  meant = taken-exactly d body bytes .0 fine
+  abbrev meant : (x : Rpc) × Within (spoken (modeOf (n .cache .flags)) ed) body x
+  meant = taken-exactly (spoken (modeOf (n .cache .flags)) ed) body bytes .0 fine
 
   less-asked : Less asked (offersOf (meant .0))
   less-asked = rw (← offered-means (meant .1 .means)) (asked-less n ss body)
 
-  pub ask-means : (unseenOf n ss (offered (d .mode) body) ≡ [] → ⊥) → (e : Dialect)
-      → Within e (askBytes n ss body) (request (unseenOf n ss (offered (d .mode) body)))
+  pub ask-means : (unseenOf n ss (offered (modeOf (n .cache .flags)) body) ≡ [] → ⊥) → (e : Dialect)
+      → Within e (askBytes n ss body) (request (unseenOf n ss (offered (modeOf (n .cache .flags)) body)))
   ask-means there = request-within n ss (meant .1) there
 
-  pub ask-stays : (unseenOf n ss (offered (d .mode) body) ≡ [] → ⊥) → (e : Dialect)
+  pub ask-stays : (unseenOf n ss (offered (modeOf (n .cache .flags)) body) ≡ [] → ⊥) → (e : Dialect)
       → canonBody e (askBytes n ss body) ≡ askBytes n ss body
   unfolding askBytes
   ask-stays there e = canon-written (ask-means there e .means) ∙ sym (some-bytes asked (request asked) there)

@@ -428,7 +428,7 @@ fn read_value(mode: Mode, input: &[u8], field: u64, wire_type: u8, tag_end: usiz
 }
 
 // The field at idx, its tag and its value, however long they are.
-fn read_long_field(mode: Mode, input: &[u8], idx: usize) -> Step
+fn read_long_field(input: &[u8], idx: usize, mode: Mode) -> Step
     ensures { λ r. ⌜ r ≡ readField mode (now (input .entry)) idx ⌝ }
 {
     let t = read_tag(input, idx);
@@ -469,46 +469,45 @@ fn is_middle(t: u8, b: u8, h: u8) -> bool
 }
 
 // The same; a number whose tag and value are a byte each, and a length of two bytes, are read without a call.
-fn read_any_field(mode: Mode, input: &[u8], idx: usize) -> Step
+fn read_any_field(input: &[u8], idx: usize, mode: Mode) -> Step
+    requires { ⌜ idx < length (now input) ⌝ }
     ensures { λ r. ⌜ r ≡ readField mode (now (input .entry)) idx ⌝ }
 {
-    if idx < input.len() {
-        let tag_end = idx + 1;
-        if tag_end < input.len() {
-            let t = input[idx];
-            let b = input[tag_end];
-            if is_short(WIRE_VARINT, t, b) {
-                let end = tag_end + 1;
-                return Step::At(Field {
-                    field: (t / 8) as u64,
-                    wire_type: WIRE_VARINT,
-                    tag_end,
-                    value: b as u64,
-                    start: end,
-                    next: end,
-                });
-            }
-            let second = tag_end + 1;
-            if second < input.len() {
-                let h = input[second];
-                if is_middle(t, b, h) {
-                    let start = second + 1;
-                    let len = (b % 128) as usize + 128 * h as usize;
-                    if len <= input.len() - start {
-                        return Step::At(Field {
-                            field: (t / 8) as u64,
-                            wire_type: WIRE_LEN,
-                            tag_end,
-                            value: len as u64,
-                            start,
-                            next: start + len,
-                        });
-                    }
+    let tag_end = idx + 1;
+    if tag_end < input.len() {
+        let t = input[idx];
+        let b = input[tag_end];
+        if is_short(WIRE_VARINT, t, b) {
+            let end = tag_end + 1;
+            return Step::At(Field {
+                field: (t / 8) as u64,
+                wire_type: WIRE_VARINT,
+                tag_end,
+                value: b as u64,
+                start: end,
+                next: end,
+            });
+        }
+        let second = tag_end + 1;
+        if second < input.len() {
+            let h = input[second];
+            if is_middle(t, b, h) {
+                let start = second + 1;
+                let len = (b % 128) as usize + 128 * h as usize;
+                if len <= input.len() - start {
+                    return Step::At(Field {
+                        field: (t / 8) as u64,
+                        wire_type: WIRE_LEN,
+                        tag_end,
+                        value: len as u64,
+                        start,
+                        next: start + len,
+                    });
                 }
             }
         }
     }
-    read_long_field(mode, input, idx)
+    read_long_field(input, idx, mode)
 }
 
 // Whether a tag and what follows it, a length or a value, are a byte each, and the tag is of this wire type.
@@ -540,7 +539,7 @@ pub fn read_field(mode: Mode, input: &[u8], idx: usize) -> Step
     }
     let tag_end = idx + 1;
     if input.len() <= tag_end {
-        return read_any_field(mode, input, idx);
+        return read_any_field(input, idx, mode);
     }
     let t = input[idx];
     let l = input[tag_end];
@@ -558,7 +557,7 @@ pub fn read_field(mode: Mode, input: &[u8], idx: usize) -> Step
             });
         }
     }
-    read_any_field(mode, input, idx)
+    read_any_field(input, idx, mode)
 }
 
 // A place in a body, from which the host reads one top-level field after the other.

@@ -4,7 +4,7 @@
 
 use crate::rows::lists;
 use pradulins::{decode, message_id, reencode, sign_bytes, sign_fields, sign_fields_into, walk_from, write_rpc, write_rpc_into};
-use pradulins::{Admitted, Edition, Gateway, Offer, Record, Refusal, Rpc, Settings, CACHE_PLACE, MAX_BODY, NODE_SIZE, SEEN_ROW};
+use pradulins::{Admitted, Dialect, Edition, Gateway, Offer, Record, Refusal, Rpc, Settings, CACHE_PLACE, MAX_BODY, NODE_SIZE, SEEN_ROW};
 use std::fmt::Write as _;
 use std::io::{Result, Write};
 
@@ -104,21 +104,31 @@ fn in_edition(content: &[u8]) -> std::result::Result<(Edition, &[u8]), ()> {
     }
 }
 
-/// The line of a call on a body; an error where the record ends the run. Kinds 21 to 24 are 1 to 4 with an edition before their content.
-fn inspect(kind: u64, content: &[u8], n: u64) -> std::result::Result<String, ()> {
-    if (21..=24).contains(&kind) {
-        let (edition, content) = in_edition(content)?;
-        return inspect_in(edition, kind - 20, content, n);
+/// The same of a dialect: an edition, and whether groups are skipped.
+fn in_dialect(content: &[u8]) -> std::result::Result<(Dialect, &[u8]), ()> {
+    let (number, rest) = content.split_first().ok_or(())?;
+    if *number > 3 {
+        return Err(());
     }
-    inspect_in(Edition::V1_1, kind, content, n)
+    let edition = if number & 1 == 0 { Edition::V1_1 } else { Edition::V1_2 };
+    Ok((Dialect { edition, skip_groups: number & 2 != 0 }, rest))
 }
 
-fn inspect_in(edition: Edition, kind: u64, content: &[u8], n: u64) -> std::result::Result<String, ()> {
+/// The line of a call on a body; an error where the record ends the run. Kinds 21 to 25 are 1 to 5 with a dialect before their content.
+fn inspect(kind: u64, content: &[u8], n: u64) -> std::result::Result<String, ()> {
+    if (21..=25).contains(&kind) {
+        let (dialect, content) = in_dialect(content)?;
+        return inspect_in(dialect, kind - 20, content, n);
+    }
+    inspect_in(Edition::V1_1.into(), kind, content, n)
+}
+
+fn inspect_in(dialect: Dialect, kind: u64, content: &[u8], n: u64) -> std::result::Result<String, ()> {
     let indexed = |least| if content.len() < least { Err(()) } else { Ok(content.split_at(least)) };
     let line = match kind {
         1 => {
             let mut lines = String::new();
-            let answer = decode(edition, content).map(|decoded| {
+            let answer = decode(dialect, content).map(|decoded| {
                 for one in &decoded.records {
                     let _ = write!(lines, "\n  {}", record(one));
                 }
@@ -126,18 +136,18 @@ fn inspect_in(edition: Edition, kind: u64, content: &[u8], n: u64) -> std::resul
             });
             format!("{n} decode {}{lines}", said(answer, true))
         }
-        2 => format!("{n} encode {}", said(reencode(edition, content).map(|bytes| made(&bytes)), true)),
+        2 => format!("{n} encode {}", said(reencode(dialect, content).map(|bytes| made(&bytes)), true)),
         3 => {
             let (index, body) = indexed(2)?;
-            format!("{n} sign {}", said(sign_bytes(edition, body, number(index) as usize).map(|bytes| made(&bytes)), true))
+            format!("{n} sign {}", said(sign_bytes(dialect, body, number(index) as usize).map(|bytes| made(&bytes)), true))
         }
         4 => {
             let (index, body) = indexed(2)?;
-            format!("{n} id {}", said(message_id(edition, body, number(index) as usize).map(|bytes| made(&bytes)), true))
+            format!("{n} id {}", said(message_id(dialect, body, number(index) as usize).map(|bytes| made(&bytes)), true))
         }
         5 => {
             let (place, body) = indexed(8)?;
-            let field = walk_from(body, number(place) as usize).next();
+            let field = walk_from(dialect, body, number(place) as usize).next();
             let answer = field
                 .map_or(Ok("end".to_string()), |field| field.map(|f| format!("{} {} {} {}", f.number, f.wire_type, f.end - f.bytes.len(), f.end)));
             format!("{n} walk {}", said(answer, true))
@@ -157,14 +167,16 @@ fn inspect_in(edition: Edition, kind: u64, content: &[u8], n: u64) -> std::resul
     Ok(line)
 }
 
-/// The settings of a record, for a program that keeps at most so many messages. Behind them may stand flags, 0 or 1.
+/// The settings of a record, for a program that keeps at most so many messages. Behind them may stand flags, 0 to 3.
 fn start(content: &[u8], most: usize) -> std::result::Result<Gateway, Refusal> {
+    let flags = number(&content[14..]);
     let settings = Settings {
         ttl: number(&content[..8]),
         max_seen: number(&content[8..10]) as usize,
         history_len: number(&content[10..12]) as usize,
         max_messages: number(&content[12..14]) as usize,
-        allow_unsigned: number(&content[14..]) == 1,
+        allow_unsigned: flags & 1 != 0,
+        skip_groups: flags & 2 != 0,
     };
     if settings.max_messages > most {
         return Err(Refusal::BadSetting);
@@ -271,7 +283,7 @@ struct States {
 impl States {
     fn new() -> States {
         let mut states = States { node: Box::new([0; NODE_SIZE]), seen: vec![0; 33282], cache: vec![0; 266240], lent: [0, 0], made: vec![0; 65600] };
-        if let Ok(fresh) = Gateway::start(Settings { ttl: 0, max_seen: 0, history_len: 1, max_messages: 0, allow_unsigned: false }) {
+        if let Ok(fresh) = Gateway::start(Settings { ttl: 0, max_seen: 0, history_len: 1, max_messages: 0, allow_unsigned: false, skip_groups: false }) {
             states.save(&fresh);
         }
         states
@@ -417,7 +429,7 @@ impl States {
                 let (windows, id, topic) = question(content).ok_or(())?;
                 format!("{n} why {}", said(why(&self.gateway(), windows, id, topic), true))
             }
-            21 if content.len() == 16 && number(&content[14..]) > 1 => format!("{n} -"),
+            21 if content.len() == 16 && number(&content[14..]) > 3 => format!("{n} -"),
             21 if content.len() == 16 => format!("{n} set {}", said(self.set(content), true)),
             22 | 25 | 26 => self.in_edition(kind, content, n)?,
             _ => return Err(()),

@@ -5,7 +5,7 @@ use std::error::Error;
 use std::io::{ErrorKind, Write};
 
 /// The largest state, so that writing it takes long.
-const SETTINGS: Settings = Settings { ttl: u64::MAX, max_seen: 256, history_len: 16, max_messages: 64, allow_unsigned: false };
+const SETTINGS: Settings = Settings { ttl: u64::MAX, max_seen: 256, history_len: 16, max_messages: 64, allow_unsigned: false, skip_groups: false };
 
 /// A body with one message, whose seqno is a number.
 fn notice(number: u64) -> Vec<u8> {

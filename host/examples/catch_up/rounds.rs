@@ -115,7 +115,7 @@ fn catch_up(giver: &mut Site, taker: &mut Site, out: &mut dyn Write) -> Result<(
 
 /// Plays the story, and prints each round.
 pub fn run(out: &mut dyn Write) -> Result<(), Box<dyn Error>> {
-    let settings = Settings { ttl: HOUR, max_seen: 256, history_len: WINDOWS, max_messages: 64, allow_unsigned: false };
+    let settings = Settings { ttl: HOUR, max_seen: 256, history_len: WINDOWS, max_messages: 64, allow_unsigned: false, skip_groups: false };
     let mut north = Site::new("north", settings)?;
     let mut south = Site::new("south", settings)?;
 

@@ -4,7 +4,7 @@ use mathlib.Core.Path.{_≡_, refl, sym, ap, _∙_}
 use mathlib.Core.List.{List}
 use native.Mathlib.Omega.{arith}
 use lib.ListN.{length}
-use Rattle.basis.specs.declared.Dialect.{Dialect}
+use Rattle.basis.specs.declared.Edition.{Edition}
 use Rattle.basis.specs.Dialect.{spoken}
 use Rattle.schema.specs.declared.Kind.the-variants as kind
 use Rattle.schema.specs.Schema.{rowOf, heldOf}
@@ -14,17 +14,18 @@ use Rattle.encode.proofs.Parts.{order-step, order-end, order-all}
 use borrow.Author.Needs.{needs}
 use Rattle.encode.proofs.emit_body.Statement.{statement}
 use Rattle.encode.proofs.emit_body.Tie as tie
+use Rattle.basis.specs.declared.Mode.the-variants.{Groups}
 
 -- the field n of a body
-abbrev top : Dialect → List ℕ → ℕ → List ℕ
-top d s n = bodyPart (d .mode) s n (heldOf (rowOf (kind.Rpc (d .edition)) n))
+abbrev top : Edition → List ℕ → ℕ → List ℕ
+top e s n = bodyPart Groups s n (heldOf (rowOf (kind.Rpc e) n))
 
 abbrev Inv-loop : tie.InvT-loop
-Inv-loop body out₀ mode edition last n₀ end₀ out n end =
-    (1 ≤ n) × (n ≤ last + 1) × Going out₀ 0 (canonBody (spoken mode edition) body) out end (inOrder (top (spoken mode edition) body) n (last + 1 - n)) × (length out ≡ length out₀)
+Inv-loop edition body out₀ last n₀ end₀ out n end =
+    (1 ≤ n) × (n ≤ last + 1) × Going out₀ 0 (canonBody (spoken Groups edition) body) out end (inOrder (top edition body) n (last + 1 - n)) × (length out ≡ length out₀)
 
 abbrev μ-loop : tie.MeasureT-loop
-μ-loop body out₀ mode edition last n₀ end₀ out n end = last + 1 - n
+μ-loop edition body out₀ last n₀ end₀ out n end = last + 1 - n
 
 rows-requires : tie.Need-rows-requires Inv-loop μ-loop
 rows-requires c κs = search needs
@@ -33,7 +34,7 @@ loop-holds : tie.Need-loop-holds Inv-loop μ-loop
 unfolding canonBody
 loop-holds c =
     let a = c .before .before .before .args in
-    (omega arith, omega arith, going-same (a .out .now) 0 _ _ (sym (order-all (top (a .dialect) (a .body .now)) _ _ (c .rows .ensures))) (c .before .before .before .pre), refl)
+    (omega arith, omega arith, going-same (a .out .now) 0 _ _ (sym (order-all (top (a .edition) (a .body .now)) _ _ (c .rows .ensures))) (c .before .before .before .pre), refl)
 
 row-of-requires : tie.Need-row-of-requires Inv-loop μ-loop
 row-of-requires c κs = search needs
@@ -45,7 +46,7 @@ emit-top-requires : tie.Need-emit-top-requires Inv-loop μ-loop
 emit-top-requires c κs =
     let a = c .before .before .before .before .before .before .before .before .args in
     let l = c .before .before .before .before .loop in
-    (omega (arith, c .before .before .before .before .before .rows .ensures), fits-same _ _ _ (sym (ap (bodyPart (a .dialect .mode) (a .body .now) (l .n)) (c .before .held-of .ensures ∙ ap heldOf (c .before .before .row-of .ensures)))) (going-fits _ _ _ _ _ _ (l .inv .2) (top (a .dialect) (a .body .now) (l .n)) _ (order-step (top (a .dialect) (a .body .now)) (l .n) _ (c .before .before .before .loop-test .taken))))
+    (omega (arith, c .before .before .before .before .before .rows .ensures), fits-same _ _ _ (sym (ap (bodyPart Groups (a .body .now) (l .n)) (c .before .held-of .ensures ∙ ap heldOf (c .before .before .row-of .ensures)))) (going-fits _ _ _ _ _ _ (l .inv .2) (top (a .edition) (a .body .now) (l .n)) _ (order-step (top (a .edition) (a .body .now)) (l .n) _ (c .before .before .before .loop-test .taken))))
 
 add-n : tie.Need-add-n Inv-loop μ-loop
 add-n c = omega (arith, c .before .before .before .before .before .before .before .before .rows .ensures)
@@ -60,9 +61,9 @@ loop-again c =
     let k = l .inv .3 in (
       omega arith,
       omega (arith, c .before .before .before .before .before .before .loop-test .taken),
-      going-part _ _ _ _ _ _ (l .inv .2) (top (a .dialect) (a .body .now) (l .n)) _
-          (order-step (top (a .dialect) (a .body .now)) (l .n) _ (c .before .before .before .before .before .before .loop-test .taken)) _ _
-          (puts-same _ _ _ _ _ _ (ap (bodyPart (a .dialect .mode) (a .body .now) (l .n)) (c .before .before .before .before .held-of .ensures
+      going-part _ _ _ _ _ _ (l .inv .2) (top (a .edition) (a .body .now) (l .n)) _
+          (order-step (top (a .edition) (a .body .now)) (l .n) _ (c .before .before .before .before .before .before .loop-test .taken)) _ _
+          (puts-same _ _ _ _ _ _ (ap (bodyPart Groups (a .body .now) (l .n)) (c .before .before .before .before .held-of .ensures
           ∙ ap heldOf (c .before .before .before .before .before .row-of .ensures))) (c .before .before .emit-top .ensures)),
       omega arith,
     )
@@ -74,7 +75,7 @@ returns : tie.Need-returns Inv-loop μ-loop
 returns c =
     let a = c .before .before .before .before .before .args in
     let l = c .before .loop in
-    going-none _ _ _ _ _ _ (l .inv .2) (order-end (top (a .dialect) (a .body .now)) (l .n) _ (c .loop-test .left))
+    going-none _ _ _ _ _ _ (l .inv .2) (order-end (top (a .edition) (a .body .now)) (l .n) _ (c .loop-test .left))
 
 pub emit-body-spec : {M : Type 1} → statement M
 emit-body-spec =

@@ -10,6 +10,7 @@ use Rattle.encode.proofs.Parts.{measure-fits, head-fits, value-fits, su
 use borrow.Author.Needs.{needs}
 use Rattle.encode.proofs.emit_control.Statement.{statement}
 use Rattle.encode.proofs.emit_control.Tie as tie
+use Rattle.basis.specs.declared.Mode.the-variants.{Groups}
 
 has-field-requires : tie.Need-has-field-requires
 has-field-requires c κs = search needs
@@ -18,11 +19,11 @@ slice-aggregate-emit-merged : tie.Need-slice-aggregate-emit-merged
 slice-aggregate-emit-merged c = search needs
 
 emit-merged-requires : tie.Need-emit-merged-requires
-emit-merged-requires c κs = let a = c .before .before .before .before .before .args in let x = mergedOf (a .mode) (a .kind) (a .n) (a .body .now) in measure-fits (a .n) _ x (a .at) (ap (λ (t : Bool). cond t (bytesField (a .n) x) []) (sym (c .before .before .has-field .ensures) ∙ c .before .if1 .taken)) (c .before .before .before .before .before .pre .1)
+emit-merged-requires c κs = let a = c .before .before .before .before .before .args in let x = mergedOf Groups (a .kind) (a .n) (a .body .now) in measure-fits (a .n) _ x (a .at) (ap (λ (t : Bool). cond t (bytesField (a .n) x) []) (sym (c .before .before .has-field .ensures) ∙ c .before .if1 .taken)) (c .before .before .before .before .before .pre .1)
 
 emit-head-requires : tie.Need-emit-head-requires
 emit-head-requires c κs = let a = (c .before .before .before .before .before .before .before .before .args) in
-    let x = mergedOf (a .mode) (a .kind) (a .n) (a .body .now) in (
+    let x = mergedOf Groups (a .kind) (a .n) (a .body .now) in (
       c .before .before .before .before .before .before .before .before .pre .0,
       head-fits (a .n) _ x (a .at) (ap (λ (t : Bool). cond t (bytesField (a .n) x) []) (sym (c .before .before .before .before .before .has-field .ensures)
           ∙ (c .before .before .before .before .if1 .taken))) (c .before .before .before .before .before .before .before .before .pre .1) _ _ _
@@ -31,7 +32,7 @@ emit-head-requires c κs = let a = (c .before .before .before .before .before .b
 
 add-if2 : tie.Need-add-if2
 add-if2 c = let a = (c .before .before .before .before .before .before .before .before .before .before .before .args) in
-    let x = mergedOf (a .mode) (a .kind) (a .n) (a .body .now) in
+    let x = mergedOf Groups (a .kind) (a .n) (a .body .now) in
     let z = sum-fits (a .n) _ x (a .at)
     (ap (λ (t : Bool). cond t (bytesField (a .n) x) []) (sym (c .before .before .before .before .before .before .before .before .has-field .ensures)
     ∙ (c .before .before .before .before .before .before .before .if1 .taken)))
@@ -40,7 +41,7 @@ add-if2 c = let a = (c .before .before .before .before .before .before .before .
 
 add-result : tie.Need-add-result
 add-result c = let a = (c .before .before .before .before .before .before .before .before .before .before .before .before .args) in
-    let x = mergedOf (a .mode) (a .kind) (a .n) (a .body .now) in
+    let x = mergedOf Groups (a .kind) (a .n) (a .body .now) in
     let z = sum-fits (a .n) _ x (a .at)
     (ap (λ (t : Bool). cond t (bytesField (a .n) x) []) (sym (c .before .before .before .before .before .before .before .before .before .has-field .ensures)
     ∙ (c .before .before .before .before .before .before .before .before .if1 .taken)))
@@ -52,7 +53,7 @@ same-length c = search needs
 
 returns : tie.Need-returns
 returns c = let a = (c .before .before .before .before .before .before .before .before .before .before .before .before .args) in
-    let x = mergedOf (a .mode) (a .kind) (a .n) (a .body .now) in
+    let x = mergedOf Groups (a .kind) (a .n) (a .body .now) in
     field-short (a .n) _ x (a .at)
     (ap (λ (t : Bool). cond t (bytesField (a .n) x) []) (sym (c .before .before .before .before .before .before .before .before .before .has-field .ensures)
     ∙ (c .before .before .before .before .before .before .before .before .if1 .taken)))
@@ -62,7 +63,7 @@ returns c = let a = (c .before .before .before .before .before .before .before .
 
 emit-merged-requires-2 : tie.Need-emit-merged-requires-2
 emit-merged-requires-2 c κs = let a = (c .before .before .before .before .before .before .before .before .before .before .before .before .before .args) in
-    let x = mergedOf (a .mode) (a .kind) (a .n) (a .body .now) in
+    let x = mergedOf Groups (a .kind) (a .n) (a .body .now) in
     value-fits (a .n) _ x (a .at)
     (ap (λ (t : Bool). cond t (bytesField (a .n) x) [])
     (sym (c .before .before .before .before .before .before .before .before .before .before .has-field .ensures)
@@ -76,7 +77,7 @@ same-length-2 c = search needs
 returns-2 : tie.Need-returns-2
 returns-2 c = let a =
     (c .before .before .before .before .before .before .before .before .before .before .before .before .before .before .before .before .args) in
-    let x = mergedOf (a .mode) (a .kind) (a .n) (a .body .now) in
+    let x = mergedOf Groups (a .kind) (a .n) (a .body .now) in
     field-puts (a .n) _ x (a .at)
     (ap (λ (t : Bool). cond t (bytesField (a .n) x) [])
     (sym (c .before .before .before .before .before .before .before .before .before .before .before .before .before .has-field .ensures)
@@ -86,7 +87,7 @@ returns-2 c = let a =
     (c .before .before .before .before .before .before .before .emit-head .ensures) _ _ (c .before .before .emit-merged2 .ensures)
 
 returns-3 : tie.Need-returns-3
-returns-3 c = let a = (c .before .before .before .before .args) in let x = mergedOf (a .mode) (a .kind) (a .n) (a .body .now) in puts-same (a .out .now) (a .at) [] _ _ _ (sym (ap (λ (t : Bool). cond t (bytesField (a .n) x) []) (sym (c .before .has-field .ensures) ∙ (c .if1 .left)))) (puts-none (a .out .now) (a .at))
+returns-3 c = let a = (c .before .before .before .before .args) in let x = mergedOf Groups (a .kind) (a .n) (a .body .now) in puts-same (a .out .now) (a .at) [] _ _ _ (sym (ap (λ (t : Bool). cond t (bytesField (a .n) x) []) (sym (c .before .has-field .ensures) ∙ (c .if1 .left)))) (puts-none (a .out .now) (a .at))
 
 pub emit-control-spec : {M : Type 1} → statement M
 emit-control-spec =

@@ -7,7 +7,6 @@ use mathlib.Core.Bool.{cond}
 use native.Mathlib.Omega.{arith}
 use borrow.Author.Needs.{needs}
 use lib.ListN.{length}
-use Rattle.basis.specs.declared.Mode.{Mode}
 use Rattle.protobuf.specs.declared.Step.the-variants as step
 use Rattle.protobuf.specs.Laws.{field-stands}
 use Rattle.protobuf.specs.Walk.{walkAt, fieldsOf, isBytes, valueIn}
@@ -19,20 +18,21 @@ use Rattle.encode.proofs.Parts.{each-field}
 use Rattle.schema.specs.declared.Kind.{Kind}
 use Rattle.encode.proofs.emit_entries.Statement.{statement}
 use Rattle.encode.proofs.emit_entries.Tie as tie
+use Rattle.basis.specs.declared.Mode.the-variants.{Groups}
 
 -- the entries m of one submessage
-abbrev entry : Mode → Kind → ℕ → List ℕ → List ℕ
-entry mode j m p = heldPart mode (canon mode) m p (heldOf (rowOf j m))
+abbrev entry : Kind → ℕ → List ℕ → List ℕ
+entry j m p = heldPart Groups (canon Groups) m p (heldOf (rowOf j m))
 
 abbrev Inv-loop : tie.InvT-loop
-Inv-loop mode body kind n m out₀ at i₀ end₀ out i end = Going out₀ at (entriesOf mode kind n body m) out end (eachAlong (entry mode kind m) n body (walkAt mode body i)) × (length out ≡ length out₀)
+Inv-loop body kind n m out₀ at i₀ end₀ out i end = Going out₀ at (entriesOf Groups kind n body m) out end (eachAlong (entry kind m) n body (walkAt Groups body i)) × (length out ≡ length out₀)
 
 abbrev μ-loop : tie.MeasureT-loop
-μ-loop mode body kind n m out₀ at i₀ end₀ out i end = length body - i
+μ-loop body kind n m out₀ at i₀ end₀ out i end = length body - i
 
 loop-holds : tie.Need-loop-holds Inv-loop μ-loop
 unfolding entriesOf
-loop-holds c = let a = c .before .before .args in (going-all (a .out .now) (a .at) (eachAlong (entry (a .mode) (a .kind) (a .m)) (a .n) (a .body .now) (fieldsOf (a .mode) (a .body .now))) (c .before .before .pre .1), refl)
+loop-holds c = let a = c .before .before .args in (going-all (a .out .now) (a .at) (eachAlong (entry (a .kind) (a .m)) (a .n) (a .body .now) (fieldsOf Groups (a .body .now))) (c .before .before .pre .1), refl)
 
 read-field-requires : tie.Need-read-field-requires Inv-loop μ-loop
 read-field-requires c κs = search needs
@@ -47,7 +47,7 @@ returns : tie.Need-returns Inv-loop μ-loop
 returns c =
     let a = c .before .before .before .before .before .before .before .args in
     let l = c .before .before .before .before .loop in
-    going-none _ _ _ _ _ _ (l .inv .0) (ap (eachAlong (entry (a .mode) (a .kind) (a .m)) (a .n) (a .body .now)) (walk-on (a .mode) (a .body .now) (l .i) step.End (sym (c .enum-told .given .1) ∙ c .before .before .read-field .ensures)))
+    going-none _ _ _ _ _ _ (l .inv .0) (ap (eachAlong (entry (a .kind) (a .m)) (a .n) (a .body .now)) (walk-on Groups (a .body .now) (l .i) step.End (sym (c .enum-told .given .1) ∙ c .before .before .read-field .ensures)))
 
 enum-told-2 : tie.Need-enum-told-2 Inv-loop μ-loop
 enum-told-2 c = search needs
@@ -59,7 +59,7 @@ returns-2 : tie.Need-returns-2 Inv-loop μ-loop
 returns-2 c =
     let a = c .before .before .before .before .before .before .before .args in
     let l = c .before .before .before .before .loop in
-    going-none _ _ _ _ _ _ (l .inv .0) (ap (eachAlong (entry (a .mode) (a .kind) (a .m)) (a .n) (a .body .now)) (walk-on (a .mode) (a .body .now) (l .i) _ (sym (c .enum-told2 .given .1) ∙ c .before .before .read-field .ensures)))
+    going-none _ _ _ _ _ _ (l .inv .0) (ap (eachAlong (entry (a .kind) (a .m)) (a .n) (a .body .now)) (walk-on Groups (a .body .now) (l .i) _ (sym (c .enum-told2 .given .1) ∙ c .before .before .read-field .ensures)))
 
 enum-known-step : tie.Need-enum-known-step Inv-loop μ-loop
 enum-known-step c = search needs
@@ -70,15 +70,15 @@ emit-entry-requires c κs =
     let l = c .before .before .before .before .before .before .loop in
     let e = sym (c .before .before .step .given .1) ∙ c .before .before .before .before .read-field .ensures in
     let f = c .before .before .step .given .0 .0 in
-    let x = cond (isBytes (a .n) f) (entry (a .mode) (a .kind) (a .m) (valueIn (a .body .now) f)) [] in
-    let o = eachAlong (entry (a .mode) (a .kind) (a .m)) (a .n) (a .body .now) (walkAt (a .mode) (a .body .now) (f .next)) in
-    let m = field-stands (a .mode) (a .body .now) (l .i) f e in
-    (c .before .before .before .before .before .before .before .before .before .pre .0, record { order = m .ends; fits = m .within }, going-fits _ _ _ _ _ _ (l .inv .0) x o (each-field (a .mode) (entry (a .mode) (a .kind) (a .m)) (a .n) (a .body .now) (l .i) f e))
+    let x = cond (isBytes (a .n) f) (entry (a .kind) (a .m) (valueIn (a .body .now) f)) [] in
+    let o = eachAlong (entry (a .kind) (a .m)) (a .n) (a .body .now) (walkAt Groups (a .body .now) (f .next)) in
+    let m = field-stands Groups (a .body .now) (l .i) f e in
+    (c .before .before .before .before .before .before .before .before .before .pre .0, record { order = m .ends; fits = m .within }, going-fits _ _ _ _ _ _ (l .inv .0) x o (each-field Groups (entry (a .kind) (a .m)) (a .n) (a .body .now) (l .i) f e))
 
 loop-less : tie.Need-loop-less Inv-loop μ-loop
 loop-less c =
     let a = c .before .before .before .before .before .before .before .before .before .before .before .before .args in
-    let m = field-stands (a .mode) (a .body .now) (c .before .before .before .before .before .before .before .before .before .loop .i) _ (sym (c .before .before .before .before .before .step .given .1) ∙ c .before .before .before .before .before .before .before .read-field .ensures) in
+    let m = field-stands Groups (a .body .now) (c .before .before .before .before .before .before .before .before .before .loop .i) _ (sym (c .before .before .before .before .before .step .given .1) ∙ c .before .before .before .before .before .before .before .read-field .ensures) in
     omega arith
 
 loop-again : tie.Need-loop-again Inv-loop μ-loop
@@ -87,10 +87,10 @@ loop-again c =
     let l = c .before .before .before .before .before .before .before .before .before .loop in
     let e = sym (c .before .before .before .before .before .step .given .1) ∙ c .before .before .before .before .before .before .before .read-field .ensures in
     let f = c .before .before .before .before .before .step .given .0 .0 in
-    let x = cond (isBytes (a .n) f) (entry (a .mode) (a .kind) (a .m) (valueIn (a .body .now) f)) [] in
-    let o = eachAlong (entry (a .mode) (a .kind) (a .m)) (a .n) (a .body .now) (walkAt (a .mode) (a .body .now) (f .next)) in
+    let x = cond (isBytes (a .n) f) (entry (a .kind) (a .m) (valueIn (a .body .now) f)) [] in
+    let o = eachAlong (entry (a .kind) (a .m)) (a .n) (a .body .now) (walkAt Groups (a .body .now) (f .next)) in
     let k = l .inv .1 in
-    (going-part _ _ _ _ _ _ (l .inv .0) x o (each-field (a .mode) (entry (a .mode) (a .kind) (a .m)) (a .n) (a .body .now) (l .i) f e) _ _ (c .before .before .emit-entry .ensures), omega arith)
+    (going-part _ _ _ _ _ _ (l .inv .0) x o (each-field Groups (entry (a .kind) (a .m)) (a .n) (a .body .now) (l .i) f e) _ _ (c .before .before .emit-entry .ensures), omega arith)
 
 same-length-3 : tie.Need-same-length-3 Inv-loop μ-loop
 same-length-3 c = let k = c .before .loop .inv .1 in omega arith
@@ -100,7 +100,7 @@ returns-3 c =
     let a = c .before .before .before .before .args in
     let l = c .before .loop in
     let h : length (a .body .now) ≤ l .i = omega arith in
-    going-none _ _ _ _ _ _ (l .inv .0) (ap (eachAlong (entry (a .mode) (a .kind) (a .m)) (a .n) (a .body .now)) (walk-end (a .mode) (a .body .now) (l .i) h))
+    going-none _ _ _ _ _ _ (l .inv .0) (ap (eachAlong (entry (a .kind) (a .m)) (a .n) (a .body .now)) (walk-end Groups (a .body .now) (l .i) h))
 
 pub emit-entries-spec : {M : Type 1} → statement M
 emit-entries-spec =

@@ -8,6 +8,7 @@ use Rattle.encode.proofs.Parts.{field-yes, field-no, field-other, held-
 use borrow.Author.Needs.{needs}
 use Rattle.encode.proofs.emit_entry.Statement.{statement}
 use Rattle.encode.proofs.emit_entry.Tie as tie
+use Rattle.basis.specs.declared.Mode.the-variants.{Groups}
 
 row-of-requires : tie.Need-row-of-requires
 row-of-requires c κs = search needs
@@ -28,9 +29,9 @@ emit-held-requires : tie.Need-emit-held-requires
 emit-held-requires c κs =
     let a = c .before .before .before .before .before .before .before .before .before .before .args in
     let p = valueIn (a .body .now) (a .f) in
-    let x = heldPart (a .mode) (canon (a .mode)) (a .m) p (heldOf (rowOf (a .kind) (a .m))) in
+    let x = heldPart Groups (canon Groups) (a .m) p (heldOf (rowOf (a .kind) (a .m))) in
     let h = c .before .before .held-of .ensures ∙ ap heldOf (c .before .before .before .row-of .ensures) in
-    let y = field-yes (a .n) (a .f) x (c .before .before .before .before .before .before .if1 .taken) (c .before .before .before .before .if2 .taken) ∙ held-is (a .mode) (a .m) p _ _ (sym h) in
+    let y = field-yes (a .n) (a .f) x (c .before .before .before .before .before .before .if1 .taken) (c .before .before .before .before .if2 .taken) ∙ held-is Groups (a .m) p _ _ (sym h) in
     (c .before .before .before .before .before .before .before .before .before .before .pre .0, fits-same (a .at) _ _ y (c .before .before .before .before .before .before .before .before .before .before .pre .2))
 
 same-length : tie.Need-same-length
@@ -40,16 +41,16 @@ returns : tie.Need-returns
 returns c =
     let a = c .before .before .before .before .before .before .before .before .before .before .before .before .before .args in
     let p = valueIn (a .body .now) (a .f) in
-    let x = heldPart (a .mode) (canon (a .mode)) (a .m) p (heldOf (rowOf (a .kind) (a .m))) in
+    let x = heldPart Groups (canon Groups) (a .m) p (heldOf (rowOf (a .kind) (a .m))) in
     let h = c .before .before .before .before .before .held-of .ensures ∙ ap heldOf (c .before .before .before .before .before .before .row-of .ensures) in
-    let y = field-yes (a .n) (a .f) x (c .before .before .before .before .before .before .before .before .before .if1 .taken) (c .before .before .before .before .before .before .before .if2 .taken) ∙ held-is (a .mode) (a .m) p _ _ (sym h) in
+    let y = field-yes (a .n) (a .f) x (c .before .before .before .before .before .before .before .before .before .if1 .taken) (c .before .before .before .before .before .before .before .if2 .taken) ∙ held-is Groups (a .m) p _ _ (sym h) in
     puts-same (a .out .now) (a .at) _ _ _ _ (sym y) (c .before .before .emit-held .ensures)
 
 returns-2 : tie.Need-returns-2
-returns-2 c = let a = c .before .before .before .before .before .before .args in field-none (a .n) (a .f) (heldPart (a .mode) (canon (a .mode)) (a .m) (valueIn (a .body .now) (a .f)) (heldOf (rowOf (a .kind) (a .m)))) (a .out .now) (a .at) (field-other (a .n) (a .f) _ (c .before .before .if1 .taken) (c .if2 .left))
+returns-2 c = let a = c .before .before .before .before .before .before .args in field-none (a .n) (a .f) (heldPart Groups (canon Groups) (a .m) (valueIn (a .body .now) (a .f)) (heldOf (rowOf (a .kind) (a .m)))) (a .out .now) (a .at) (field-other (a .n) (a .f) _ (c .before .before .if1 .taken) (c .if2 .left))
 
 returns-3 : tie.Need-returns-3
-returns-3 c = let a = c .before .before .before .before .args in field-none (a .n) (a .f) (heldPart (a .mode) (canon (a .mode)) (a .m) (valueIn (a .body .now) (a .f)) (heldOf (rowOf (a .kind) (a .m)))) (a .out .now) (a .at) (field-no (a .n) (a .f) _ (c .if1 .left))
+returns-3 c = let a = c .before .before .before .before .args in field-none (a .n) (a .f) (heldPart Groups (canon Groups) (a .m) (valueIn (a .body .now) (a .f)) (heldOf (rowOf (a .kind) (a .m)))) (a .out .now) (a .at) (field-no (a .n) (a .f) _ (c .if1 .left))
 
 pub emit-entry-spec : {M : Type 1} → statement M
 emit-entry-spec =

@@ -9,13 +9,14 @@ use Rattle.encode.proofs.Parts.{few-rows, order-step, order-end, order-
 use borrow.Author.Needs.{needs}
 use Rattle.encode.proofs.emit_merged.Statement.{statement}
 use Rattle.encode.proofs.emit_merged.Tie as tie
+use Rattle.basis.specs.declared.Mode.the-variants.{Groups}
 
 abbrev Inv-loop : tie.InvT-loop
-Inv-loop mode body kind n out₀ at last m₀ end₀ out m end =
-    (1 ≤ m) × (m ≤ last + 1) × Going out₀ at (mergedOf mode kind n body) out end (inOrder (entriesOf mode kind n body) m (last + 1 - m)) × (length out ≡ length out₀)
+Inv-loop body kind n out₀ at last m₀ end₀ out m end =
+    (1 ≤ m) × (m ≤ last + 1) × Going out₀ at (mergedOf Groups kind n body) out end (inOrder (entriesOf Groups kind n body) m (last + 1 - m)) × (length out ≡ length out₀)
 
 abbrev μ-loop : tie.MeasureT-loop
-μ-loop mode body kind n out₀ at last m₀ end₀ out m end = last + 1 - m
+μ-loop body kind n out₀ at last m₀ end₀ out m end = last + 1 - m
 
 rows-requires : tie.Need-rows-requires Inv-loop μ-loop
 rows-requires c κs = search needs
@@ -24,14 +25,14 @@ loop-holds : tie.Need-loop-holds Inv-loop μ-loop
 unfolding mergedOf
 loop-holds c =
     let a = c .before .before .before .args in
-    (omega arith, omega arith, going-same (a .out .now) (a .at) _ _ (sym (order-all (entriesOf (a .mode) (a .kind) (a .n) (a .body .now)) _ _ (c .rows .ensures))) (c .before .before .before .pre), refl)
+    (omega arith, omega arith, going-same (a .out .now) (a .at) _ _ (sym (order-all (entriesOf Groups (a .kind) (a .n) (a .body .now)) _ _ (c .rows .ensures))) (c .before .before .before .pre), refl)
 
 emit-entries-requires : tie.Need-emit-entries-requires Inv-loop μ-loop
 emit-entries-requires c κs =
     let a = c .before .before .before .before .before .before .args in
     let l = c .before .before .loop in
     let m = few-rows (a .kind) in
-    (omega (arith, c .before .before .before .rows .ensures), going-fits _ _ _ _ _ _ (l .inv .2) (entriesOf (a .mode) (a .kind) (a .n) (a .body .now) (l .m)) _ (order-step (entriesOf (a .mode) (a .kind) (a .n) (a .body .now)) (l .m) _ (c .before .loop-test .taken)))
+    (omega (arith, c .before .before .before .rows .ensures), going-fits _ _ _ _ _ _ (l .inv .2) (entriesOf Groups (a .kind) (a .n) (a .body .now) (l .m)) _ (order-step (entriesOf Groups (a .kind) (a .n) (a .body .now)) (l .m) _ (c .before .loop-test .taken)))
 
 add-m : tie.Need-add-m Inv-loop μ-loop
 add-m c = let m = few-rows (c .before .before .before .before .before .before .before .before .before .args .kind) in omega (arith, c .before .before .before .before .before .before .rows .ensures)
@@ -44,7 +45,7 @@ loop-again c =
     let a = c .before .before .before .before .before .before .before .before .before .args in
     let l = c .before .before .before .before .before .loop in
     let k = l .inv .3 in
-    (omega arith, omega (arith, c .before .before .before .before .loop-test .taken), going-part _ _ _ _ _ _ (l .inv .2) (entriesOf (a .mode) (a .kind) (a .n) (a .body .now) (l .m)) _ (order-step (entriesOf (a .mode) (a .kind) (a .n) (a .body .now)) (l .m) _ (c .before .before .before .before .loop-test .taken)) _ _ (c .before .before .emit-entries .ensures), omega arith)
+    (omega arith, omega (arith, c .before .before .before .before .loop-test .taken), going-part _ _ _ _ _ _ (l .inv .2) (entriesOf Groups (a .kind) (a .n) (a .body .now) (l .m)) _ (order-step (entriesOf Groups (a .kind) (a .n) (a .body .now)) (l .m) _ (c .before .before .before .before .loop-test .taken)) _ _ (c .before .before .emit-entries .ensures), omega arith)
 
 same-length : tie.Need-same-length Inv-loop μ-loop
 same-length c = let k = c .before .loop .inv .3 in omega arith
@@ -53,7 +54,7 @@ returns : tie.Need-returns Inv-loop μ-loop
 returns c =
     let a = c .before .before .before .before .before .args in
     let l = c .before .loop in
-    going-none _ _ _ _ _ _ (l .inv .2) (order-end (entriesOf (a .mode) (a .kind) (a .n) (a .body .now)) (l .m) _ (c .loop-test .left))
+    going-none _ _ _ _ _ _ (l .inv .2) (order-end (entriesOf Groups (a .kind) (a .n) (a .body .now)) (l .m) _ (c .loop-test .left))
 
 pub emit-merged-spec : {M : Type 1} → statement M
 emit-merged-spec =

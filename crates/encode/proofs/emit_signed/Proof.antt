@@ -7,6 +7,7 @@ use Rattle.encode.specs.Puts.{puts-append}
 use borrow.Author.Needs.{needs}
 use Rattle.encode.proofs.emit_signed.Statement.{statement}
 use Rattle.encode.proofs.emit_signed.Tie as tie
+use Rattle.basis.specs.declared.Mode.the-variants.{Groups}
 
 slice-aggregate-emit-bytes : tie.Need-slice-aggregate-emit-bytes
 slice-aggregate-emit-bytes c = search needs
@@ -22,7 +23,7 @@ same-length c = search needs
 
 returns : tie.Need-returns
 unfolding signOf
-returns c = let a = (c .before .before .before .before .before .before .before .before .before .before .before .args) in puts-append (a .out .now) _ _ 0 _ _ signPrefix (canon (a .mode) kind.RawMessage (a .part .now)) ((c .before .before .before .before .before .before .emit-bytes .ensures)) ((c .before .before .emit-message .ensures))
+returns c = let a = (c .before .before .before .before .before .before .before .before .before .before .before .args) in puts-append (a .out .now) _ _ 0 _ _ signPrefix (canon Groups kind.RawMessage (a .part .now)) ((c .before .before .before .before .before .before .emit-bytes .ensures)) ((c .before .before .emit-message .ensures))
 
 pub emit-signed-spec : {M : Type 1} → statement M
 emit-signed-spec =

@@ -17,15 +17,16 @@ use Rattle.encode.specs.Puts.{Going, going-all, going-none, going-fits, 
 use Rattle.encode.proofs.Parts.{each-field}
 use Rattle.encode.proofs.emit_whole.Statement.{statement}
 use Rattle.encode.proofs.emit_whole.Tie as tie
+use Rattle.basis.specs.declared.Mode.the-variants.{Groups}
 
 abbrev Inv-loop : tie.InvT-loop
-Inv-loop mode input n out₀ at i₀ end₀ out i end = Going out₀ at (eachOf mode (bytesField n) n input) out end (eachAlong (bytesField n) n input (walkAt mode input i)) × (length out ≡ length out₀)
+Inv-loop input n out₀ at i₀ end₀ out i end = Going out₀ at (eachOf Groups (bytesField n) n input) out end (eachAlong (bytesField n) n input (walkAt Groups input i)) × (length out ≡ length out₀)
 
 abbrev μ-loop : tie.MeasureT-loop
-μ-loop mode input n out₀ at i₀ end₀ out i end = length input - i
+μ-loop input n out₀ at i₀ end₀ out i end = length input - i
 
 loop-holds : tie.Need-loop-holds Inv-loop μ-loop
-loop-holds c = let a = c .before .before .args in (going-all (a .out .now) (a .at) (eachAlong (bytesField (a .n)) (a .n) (a .input .now) (fieldsOf (a .mode) (a .input .now))) (c .before .before .pre .1), refl)
+loop-holds c = let a = c .before .before .args in (going-all (a .out .now) (a .at) (eachAlong (bytesField (a .n)) (a .n) (a .input .now) (fieldsOf Groups (a .input .now))) (c .before .before .pre .1), refl)
 
 read-field-requires : tie.Need-read-field-requires Inv-loop μ-loop
 read-field-requires c κs = search needs
@@ -40,7 +41,7 @@ returns : tie.Need-returns Inv-loop μ-loop
 returns c =
     let a = c .before .before .before .before .before .before .before .args in
     let l = c .before .before .before .before .loop in
-    going-none _ _ _ _ _ _ (l .inv .0) (ap (eachAlong (bytesField (a .n)) (a .n) (a .input .now)) (walk-on (a .mode) (a .input .now) (l .i) step.End (sym (c .enum-told .given .1) ∙ c .before .before .read-field .ensures)))
+    going-none _ _ _ _ _ _ (l .inv .0) (ap (eachAlong (bytesField (a .n)) (a .n) (a .input .now)) (walk-on Groups (a .input .now) (l .i) step.End (sym (c .enum-told .given .1) ∙ c .before .before .read-field .ensures)))
 
 enum-told-2 : tie.Need-enum-told-2 Inv-loop μ-loop
 enum-told-2 c = search needs
@@ -52,7 +53,7 @@ returns-2 : tie.Need-returns-2 Inv-loop μ-loop
 returns-2 c =
     let a = c .before .before .before .before .before .before .before .args in
     let l = c .before .before .before .before .loop in
-    going-none _ _ _ _ _ _ (l .inv .0) (ap (eachAlong (bytesField (a .n)) (a .n) (a .input .now)) (walk-on (a .mode) (a .input .now) (l .i) _ (sym (c .enum-told2 .given .1) ∙ c .before .before .read-field .ensures)))
+    going-none _ _ _ _ _ _ (l .inv .0) (ap (eachAlong (bytesField (a .n)) (a .n) (a .input .now)) (walk-on Groups (a .input .now) (l .i) _ (sym (c .enum-told2 .given .1) ∙ c .before .before .read-field .ensures)))
 
 enum-known-step : tie.Need-enum-known-step Inv-loop μ-loop
 enum-known-step c = search needs
@@ -64,14 +65,14 @@ emit-there-requires c κs =
     let e = sym (c .before .before .step .given .1) ∙ c .before .before .before .before .read-field .ensures in
     let f = c .before .before .step .given .0 .0 in
     let x = cond (isBytes (a .n) f) (bytesField (a .n) (valueIn (a .input .now) f)) [] in
-    let o = eachAlong (bytesField (a .n)) (a .n) (a .input .now) (walkAt (a .mode) (a .input .now) (f .next)) in
-    let m = field-stands (a .mode) (a .input .now) (l .i) f e in
-    (c .before .before .before .before .before .before .before .before .before .pre .0, record { order = m .ends; fits = m .within }, going-fits _ _ _ _ _ _ (l .inv .0) x o (each-field (a .mode) (bytesField (a .n)) (a .n) (a .input .now) (l .i) f e))
+    let o = eachAlong (bytesField (a .n)) (a .n) (a .input .now) (walkAt Groups (a .input .now) (f .next)) in
+    let m = field-stands Groups (a .input .now) (l .i) f e in
+    (c .before .before .before .before .before .before .before .before .before .pre .0, record { order = m .ends; fits = m .within }, going-fits _ _ _ _ _ _ (l .inv .0) x o (each-field Groups (bytesField (a .n)) (a .n) (a .input .now) (l .i) f e))
 
 loop-less : tie.Need-loop-less Inv-loop μ-loop
 loop-less c =
     let a = c .before .before .before .before .before .before .before .before .before .before .before .before .args in
-    let m = field-stands (a .mode) (a .input .now) (c .before .before .before .before .before .before .before .before .before .loop .i) _ (sym (c .before .before .before .before .before .step .given .1) ∙ c .before .before .before .before .before .before .before .read-field .ensures) in
+    let m = field-stands Groups (a .input .now) (c .before .before .before .before .before .before .before .before .before .loop .i) _ (sym (c .before .before .before .before .before .step .given .1) ∙ c .before .before .before .before .before .before .before .read-field .ensures) in
     omega arith
 
 loop-again : tie.Need-loop-again Inv-loop μ-loop
@@ -81,9 +82,9 @@ loop-again c =
     let e = sym (c .before .before .before .before .before .step .given .1) ∙ c .before .before .before .before .before .before .before .read-field .ensures in
     let f = c .before .before .before .before .before .step .given .0 .0 in
     let x = cond (isBytes (a .n) f) (bytesField (a .n) (valueIn (a .input .now) f)) [] in
-    let o = eachAlong (bytesField (a .n)) (a .n) (a .input .now) (walkAt (a .mode) (a .input .now) (f .next)) in
+    let o = eachAlong (bytesField (a .n)) (a .n) (a .input .now) (walkAt Groups (a .input .now) (f .next)) in
     let k = l .inv .1 in
-    (going-part _ _ _ _ _ _ (l .inv .0) x o (each-field (a .mode) (bytesField (a .n)) (a .n) (a .input .now) (l .i) f e) _ _ (c .before .before .emit-there .ensures), omega arith)
+    (going-part _ _ _ _ _ _ (l .inv .0) x o (each-field Groups (bytesField (a .n)) (a .n) (a .input .now) (l .i) f e) _ _ (c .before .before .emit-there .ensures), omega arith)
 
 same-length-3 : tie.Need-same-length-3 Inv-loop μ-loop
 same-length-3 c = let k = c .before .loop .inv .1 in omega arith
@@ -93,7 +94,7 @@ returns-3 c =
     let a = c .before .before .before .before .args in
     let l = c .before .loop in
     let h : length (a .input .now) ≤ l .i = omega arith in
-    going-none _ _ _ _ _ _ (l .inv .0) (ap (eachAlong (bytesField (a .n)) (a .n) (a .input .now)) (walk-end (a .mode) (a .input .now) (l .i) h))
+    going-none _ _ _ _ _ _ (l .inv .0) (ap (eachAlong (bytesField (a .n)) (a .n) (a .input .now)) (walk-end Groups (a .input .now) (l .i) h))
 
 pub emit-whole-spec : {M : Type 1} → statement M
 emit-whole-spec =

@@ -1,8 +1,13 @@
 -- `encode::encode` meets its contract: the test of the body picks the case.
+use Prim.Native.Nat.{ℕ}
 use mathlib.Core.Path.{sym, ap, _∙_}
+use mathlib.Core.List.{List}
+use Rattle.basis.specs.Writing.{answer, written}
+use Rattle.protobuf.specs.Encode.{ofWritten}
 use Rattle.schema.specs.AcceptLaws.{accept-small}
 use Rattle.canon.specs.Taken.{taken-shorter}
 use Rattle.encode.specs.Encode.{encodeChecked, encodeAnswer, encodedChecked, encodeLeft}
+use Rattle.encode.proofs.Taken.{taken-body}
 use borrow.Author.Needs.{needs}
 use Rattle.encode.proofs.encode.Statement.{statement}
 use Rattle.encode.proofs.encode.Tie as tie
@@ -20,7 +25,7 @@ encode-taken-requires : tie.Need-encode-taken-requires
 encode-taken-requires c κs =
     let a = c .before .before .before .before .before .before .args in
     let t = sym (c .before .before .before .accept .ensures) ∙ c .before .enum-told .given .1 in
-    (taken-shorter (a .dialect) (a .body .now) (λ i. c .before .before .before .before .before .shared-slice-known .given i .fits) t, accept-small (a .dialect) (a .body .now) t)
+    (rw (taken-body (a .dialect) (a .body .now) t) (taken-shorter (a .dialect) (a .body .now) (λ i. c .before .before .before .before .before .shared-slice-known .given i .fits) t), accept-small (a .dialect) (a .body .now) t)
 
 returns : tie.Need-returns
 unfolding encodeAnswer encodeLeft
@@ -40,10 +45,11 @@ unfolding encodeAnswer encodeLeft
 returns-2 c =
     let a = c .before .before .before .before .before .before .before .before .before .args in
     let e = sym (c .before .before .before .before .enum-told .given .1) ∙ c .before .before .before .before .before .before .accept .ensures in
+    let b = taken-body (a .dialect) (a .body .now) (sym e) in
     let r = c .before .before .encode-taken .ensures in
     record {
-      answer = r .0 ∙ ap (encodeChecked (a .dialect) (a .body .now) (a .out .now)) e;
-      lent = r .1 ∙ ap (encodedChecked (a .dialect) (a .body .now) (a .out .now)) e;
+      answer = r .0 ∙ ap (λ (x : List ℕ). ofWritten (answer x (a .out .now))) b ∙ ap (encodeChecked (a .dialect) (a .body .now) (a .out .now)) e;
+      lent = r .1 ∙ ap (λ (x : List ℕ). written x (a .out .now)) b ∙ ap (encodedChecked (a .dialect) (a .body .now) (a .out .now)) e;
     }
 
 pub encode-spec : {M : Type 1} → statement M

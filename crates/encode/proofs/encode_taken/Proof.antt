@@ -4,6 +4,8 @@ use mathlib.Core.Path.{ap, _∙_}
 use native.Mathlib.Omega.{arith}
 use lib.ListN.{length}
 use Rattle.protobuf.specs.Encode.{ofWritten}
+use Rattle.basis.specs.declared.Mode.the-variants.{Groups}
+use Rattle.basis.specs.Dialect.{spoken}
 use Rattle.canon.specs.Canon.{canonBody}
 use Rattle.encode.proofs.Parts.{too-short, all-put, measured}
 use borrow.Author.Needs.{needs}
@@ -19,7 +21,7 @@ emit-body-requires c κs = search needs
 returns : tie.Need-returns
 returns c =
     let a = c .before .before .before .before .before .before .before .args in
-    let x = canonBody (a .dialect) (a .body .now) in
+    let x = canonBody (spoken Groups (a .edition)) (a .body .now) in
     let r = too-short x (a .out .now) _ (measured x _ _ _ (c .before .before .emit-body .ensures)) (c .if2 .taken) in
     (ap ofWritten (r .0), r .1)
 
@@ -32,7 +34,7 @@ same-length c = search needs
 returns-2 : tie.Need-returns-2
 returns-2 c =
     let a = c .before .before .before .before .before .before .before .before .before .before .before .args in
-    let x = canonBody (a .dialect) (a .body .now) in
+    let x = canonBody (spoken Groups (a .edition)) (a .body .now) in
     let r = all-put x (a .out .now) _ (measured x _ _ _ (c .before .before .before .before .before .before .emit-body .ensures)) (c .before .before .before .before .if2 .left) _ _ (c .before .before .emit-body2 .ensures) in
     (ap ofWritten (r .0), r .1)
 
@@ -45,7 +47,7 @@ same-length-2 c = search needs
 returns-3 : tie.Need-returns-3
 returns-3 c =
     let a = c .before .before .before .before .before .before .before .args in
-    let x = canonBody (a .dialect) (a .body .now) in
+    let x = canonBody (spoken Groups (a .edition)) (a .body .now) in
     let e = measured x _ _ _ (c .before .before .emit-body3 .ensures) in
     let r = all-put x (a .out .now) _ e (omega (arith, c .before .before .before .before .before .before .before .pre .0, c .before .before .before .before .if1 .left)) _ _ (c .before .before .emit-body3 .ensures) in
     (ap ofWritten (r .0), r .1)

@@ -1,10 +1,15 @@
 -- `encode::sign_bytes` meets its contract: the body's test and the message's place pick the case.
-use mathlib.Core.Path.{_≡_, sym, _∙_}
+use Prim.Native.Nat.{ℕ}
+use mathlib.Core.Path.{_≡_, sym, ap, _∙_}
+use mathlib.Core.List.{List}
+use Rattle.basis.specs.Writing.{answer, written}
+use Rattle.ids.specs.Ids.{ofWritten}
 use borrow.Author.Needs.{needs}
 use Rattle.schema.specs.AcceptLaws.{accept-small}
 use Rattle.ids.specs.IdLaws.{message-inside}
 use Rattle.canon.specs.Taken.{signed-shorter}
 use Rattle.encode.proofs.Signs.{part-small, sign-refused, sign-missing, sign-found}
+use Rattle.encode.proofs.Taken.{taken-message}
 use Rattle.encode.proofs.sign_bytes.Statement.{statement}
 use Rattle.encode.proofs.sign_bytes.Tie as tie
 
@@ -40,8 +45,9 @@ sign-part-requires c κs =
     let a = c .before .before .before .before .before .before .before .before .before .before .before .args in
     let t = sym (c .before .before .before .before .before .before .before .before .accept .ensures) ∙ c .before .before .before .before .before .before .enum-told .given .1 in
     let f = sym (c .before .before .before .before .before .message-at .ensures) ∙ c .before .before .before .m2 .given .1 in (
-      signed-shorter (a .dialect) (a .body .now) (a .index) (c .before .before .before .m2 .given .0 .0) (c .before .before .before .m2 .given .0 .1 .0)
-          (λ i. c .before .before .before .before .before .before .before .before .before .before .shared-slice-known .given i .fits) t f,
+      rw (taken-message (a .dialect) (a .body .now) (a .index) _ _ t f .bytes)
+          (signed-shorter (a .dialect) (a .body .now) (a .index) (c .before .before .before .m2 .given .0 .0) (c .before .before .before .m2 .given .0 .1 .0)
+          (λ i. c .before .before .before .before .before .before .before .before .before .before .shared-slice-known .given i .fits) t f),
       part-small
           (a .body .now) (c .before .before .before .m2 .given .0 .0) (c .before .before .before .m2 .given .0 .1 .0) (accept-small (a .dialect) (a .body .now) t),
     )
@@ -56,12 +62,16 @@ same-length : tie.Need-same-length
 same-length c = search needs
 
 returns-3 : tie.Need-returns-3
-returns-3 c = let a = c .before .before .before .before .before .before .before .before .before .before .before .before .before .before .args in
-    sign-found (a .dialect) (a .body .now) (a .index) (a .out .now) _ _ _ _
-    (sym (c .before .before .before .before .before .before .before .before .before .before .before .accept .ensures)
-    ∙ c .before .before .before .before .before .before .before .before .before .enum-told .given .1)
-    (sym (c .before .before .before .before .before .before .before .before .message-at .ensures)
-    ∙ c .before .before .before .before .before .before .m2 .given .1) (c .before .before .sign-part .ensures)
+returns-3 c =
+    let a = c .before .before .before .before .before .before .before .before .before .before .before .before .before .before .args in
+    let t = sym (c .before .before .before .before .before .before .before .before .before .before .before .accept .ensures)
+    ∙ c .before .before .before .before .before .before .before .before .before .enum-told .given .1 in
+    let f = sym (c .before .before .before .before .before .before .before .before .message-at .ensures)
+    ∙ c .before .before .before .before .before .before .m2 .given .1 in
+    let g = taken-message (a .dialect) (a .body .now) (a .index) _ _ t f .signed in
+    let r = c .before .before .sign-part .ensures in
+    sign-found (a .dialect) (a .body .now) (a .index) (a .out .now) _ _ _ _ t f
+    (r .0 ∙ ap (λ (x : List ℕ). ofWritten (answer x (a .out .now))) g, r .1 ∙ ap (λ (x : List ℕ). written x (a .out .now)) g)
 
 pub sign-bytes-spec : {M : Type 1} → statement M
 sign-bytes-spec =

@@ -10,6 +10,7 @@ use Rattle.encode.proofs.Parts.{too-short, all-put, measured}
 use borrow.Author.Needs.{needs}
 use Rattle.encode.proofs.sign_part.Statement.{statement}
 use Rattle.encode.proofs.sign_part.Tie as tie
+use Rattle.basis.specs.declared.Mode.the-variants.{Groups}
 
 add-if1 : tie.Need-add-if1
 add-if1 c = search needs
@@ -23,7 +24,7 @@ emit-signed-requires c κs = let h = c .before .before .before .before .pre in o
 returns : tie.Need-returns
 returns c =
     let a = c .before .before .before .before .before .before .before .args in
-    let x = signOf (a .mode) (a .part .now) in
+    let x = signOf Groups (a .part .now) in
     let r = too-short x (a .out .now) _ (measured x _ _ _ (c .before .before .emit-signed .ensures)) (c .if2 .taken) in
     (ap ofWritten (r .0), r .1)
 
@@ -36,7 +37,7 @@ same-length c = search needs
 returns-2 : tie.Need-returns-2
 returns-2 c =
     let a = c .before .before .before .before .before .before .before .before .before .before .before .args in
-    let x = signOf (a .mode) (a .part .now) in
+    let x = signOf Groups (a .part .now) in
     let r = all-put x (a .out .now) _ (measured x _ _ _ (c .before .before .before .before .before .before .emit-signed .ensures)) (c .before .before .before .before .if2 .left) _ _ (c .before .before .emit-signed2 .ensures) in
     (ap ofWritten (r .0), r .1)
 
@@ -49,9 +50,9 @@ same-length-2 c = search needs
 returns-3 : tie.Need-returns-3
 returns-3 c =
     let a = c .before .before .before .before .before .before .before .args in
-    let x = signOf (a .mode) (a .part .now) in
+    let x = signOf Groups (a .part .now) in
     let e = measured x _ _ _ (c .before .before .emit-signed3 .ensures) in
-    let l = sign-fits (a .mode) (a .part .now) (length (a .out .now)) (c .before .before .before .before .before .before .before .pre .0) (c .before .before .before .before .if1 .left) in
+    let l = sign-fits Groups (a .part .now) (length (a .out .now)) (c .before .before .before .before .before .before .before .pre .0) (c .before .before .before .before .if1 .left) in
     let r = all-put x (a .out .now) _ e (omega arith) _ _ (c .before .before .emit-signed3 .ensures) in
     (ap ofWritten (r .0), r .1)
 

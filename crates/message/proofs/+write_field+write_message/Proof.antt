@@ -25,12 +25,13 @@ use Rattle.protobuf.proofs.read_field.Reads as read-field-reads
 use Rattle.schema.proofs.role_of.Reads as role-of-reads
 use Rattle.message.proofs.+write_field+write_message.{statement}
 use Rattle.message.proofs.+write_field+write_message.Tie.{close}
+use Rattle.basis.specs.declared.Mode.the-variants.{Groups}
 
 abbrev μ-write-field : Measures 2 write-field-kinds.ps ℕ
-μ-write-field κs a = 2 * rank (a .1 .1 .0)
+μ-write-field κs a = 2 * rank (a .1 .0)
 
 abbrev μ-write-message : Measures 2 write-message-kinds.ps ℕ
-μ-write-message κs a = 2 * rank (a .1 .1 .0) + 1
+μ-write-message κs a = 2 * rank (a .1 .0) + 1
 
 abbrev write-field-at : ℕ → In 2 write-field-kinds.ps
 write-field-at t =
@@ -85,7 +86,7 @@ write-field-add-write-leaf-2 t c = let p = c .before .before .before .before .be
 write-field-write-leaf-requires : (t : ℕ) → write-field-lts.Need-write-leaf-requires (write-field-claims t) (write-field-at t) write-field.Post
 write-field-write-leaf-requires t c κs =
     let a = c .before .before .before .before .before .before .args in
-    let e : length (fieldRows (a .mode) (a .kind) (a .base) (a .input .now) (a .f)) ≡ 1 = field-count (a .mode) (a .kind) (a .base) (a .input .now) (a .f) _ (sym (c .before .before .before .role-of .ensures) ∙ c .before .enum-told5 .given .1) in
+    let e : length (fieldRows Groups (a .kind) (a .base) (a .input .now) (a .f)) ≡ 1 = field-count Groups (a .kind) (a .base) (a .input .now) (a .f) _ (sym (c .before .before .before .role-of .ensures) ∙ c .before .enum-told5 .given .1) in
     omega arith
 
 write-field-enum-told-6 : (t : ℕ) → write-field-lts.Need-enum-told-6 (write-field-claims t) (write-field-at t) write-field.Post
@@ -100,7 +101,7 @@ write-field-add-write-leaf-4 t c = let p = c .before .before .before .before .be
 write-field-write-leaf-requires-2 : (t : ℕ) → write-field-lts.Need-write-leaf-requires-2 (write-field-claims t) (write-field-at t) write-field.Post
 write-field-write-leaf-requires-2 t c κs =
     let a = c .before .before .before .before .before .before .args in
-    let e : length (fieldRows (a .mode) (a .kind) (a .base) (a .input .now) (a .f)) ≡ 1 = field-count (a .mode) (a .kind) (a .base) (a .input .now) (a .f) _ (sym (c .before .before .before .role-of .ensures) ∙ c .before .enum-told6 .given .1) in
+    let e : length (fieldRows Groups (a .kind) (a .base) (a .input .now) (a .f)) ≡ 1 = field-count Groups (a .kind) (a .base) (a .input .now) (a .f) _ (sym (c .before .before .before .role-of .ensures) ∙ c .before .enum-told6 .given .1) in
     omega arith
 
 write-field-enum-known-role : (t : ℕ) → write-field-lts.Need-enum-known-role (write-field-claims t) (write-field-at t) write-field.Post
@@ -123,32 +124,32 @@ write-field-write-message-requires t c κs =
     let a = c .before .before .before .before .before .before .before .before .args in
     let r = sub-rank (a .kind) _ _ _ _ (sym (c .before .before .before .before .before .role-of .ensures) ∙ c .before .before .before .role .given .1) in
     let l = length-take (a .f .next - a .f .start) (drop (a .f .start) (a .input .now)) in
-    let e = field-count (a .mode) (a .kind) (a .base) (a .input .now) (a .f) _ (sym (c .before .before .before .before .before .role-of .ensures) ∙ c .before .before .before .role .given .1) in
+    let e = field-count Groups (a .kind) (a .base) (a .input .now) (a .f) _ (sym (c .before .before .before .before .before .role-of .ensures) ∙ c .before .before .before .role .given .1) in
     (omega (arith, c .before .before .before .before .before .before .before .before .pre .0), (omega arith, omega arith))
 
 write-field-returns : (t : ℕ) → write-field-lts.Need-returns (write-field-claims t) (write-field-at t) write-field.Post
 write-field-returns t c =
     let a = c .before .before .before .before .before .args in
     let e = sym (c .before .before .role-of .ensures) ∙ c .enum-told .given .1 in
-    puts-field (a .mode) (a .kind) (a .base) (a .input .now) (a .f) _ e (a .table .now) _ (a .row) _ (puts-none (a .table .now) (a .row))
+    puts-field Groups (a .kind) (a .base) (a .input .now) (a .f) _ e (a .table .now) _ (a .row) _ (puts-none (a .table .now) (a .row))
 
 write-field-returns-2 : (t : ℕ) → write-field-lts.Need-returns-2 (write-field-claims t) (write-field-at t) write-field.Post
 write-field-returns-2 t c =
     let a = c .before .before .before .before .before .args in
     let e = sym (c .before .before .role-of .ensures) ∙ c .enum-told2 .given .1 in
-    puts-field (a .mode) (a .kind) (a .base) (a .input .now) (a .f) _ e (a .table .now) _ (a .row) _ (puts-none (a .table .now) (a .row))
+    puts-field Groups (a .kind) (a .base) (a .input .now) (a .f) _ e (a .table .now) _ (a .row) _ (puts-none (a .table .now) (a .row))
 
 write-field-returns-3 : (t : ℕ) → write-field-lts.Need-returns-3 (write-field-claims t) (write-field-at t) write-field.Post
 write-field-returns-3 t c =
     let a = c .before .before .before .before .before .args in
     let e = sym (c .before .before .role-of .ensures) ∙ c .enum-told3 .given .1 in
-    puts-field (a .mode) (a .kind) (a .base) (a .input .now) (a .f) _ e (a .table .now) _ (a .row) _ (puts-none (a .table .now) (a .row))
+    puts-field Groups (a .kind) (a .base) (a .input .now) (a .f) _ e (a .table .now) _ (a .row) _ (puts-none (a .table .now) (a .row))
 
 write-field-returns-4 : (t : ℕ) → write-field-lts.Need-returns-4 (write-field-claims t) (write-field-at t) write-field.Post
 write-field-returns-4 t c =
     let a = c .before .before .before .before .before .args in
     let e = sym (c .before .before .role-of .ensures) ∙ c .enum-told4 .given .1 in
-    puts-field (a .mode) (a .kind) (a .base) (a .input .now) (a .f) _ e (a .table .now) _ (a .row) _ (puts-none (a .table .now) (a .row))
+    puts-field Groups (a .kind) (a .base) (a .input .now) (a .f) _ e (a .table .now) _ (a .row) _ (puts-none (a .table .now) (a .row))
 
 write-field-same-length : (t : ℕ) → write-field-lts.Need-same-length (write-field-claims t) (write-field-at t) write-field.Post
 write-field-same-length t c = search needs
@@ -157,7 +158,7 @@ write-field-returns-5 : (t : ℕ) → write-field-lts.Need-returns-5 (write-fiel
 write-field-returns-5 t c =
     let a = c .before .before .before .before .before .before .before .before .before .args in
     let e = sym (c .before .before .before .before .before .before .role-of .ensures) ∙ c .before .before .before .before .enum-told5 .given .1 in
-    puts-field (a .mode) (a .kind) (a .base) (a .input .now) (a .f) _ e (a .table .now) _ (a .row) _ (puts-one (a .table .now) _ (a .row) _ _ (c .before .before .write-leaf .ensures))
+    puts-field Groups (a .kind) (a .base) (a .input .now) (a .f) _ e (a .table .now) _ (a .row) _ (puts-one (a .table .now) _ (a .row) _ _ (c .before .before .write-leaf .ensures))
 
 write-field-same-length-2 : (t : ℕ) → write-field-lts.Need-same-length-2 (write-field-claims t) (write-field-at t) write-field.Post
 write-field-same-length-2 t c = search needs
@@ -166,7 +167,7 @@ write-field-returns-6 : (t : ℕ) → write-field-lts.Need-returns-6 (write-fiel
 write-field-returns-6 t c =
     let a = c .before .before .before .before .before .before .before .before .before .args in
     let e = sym (c .before .before .before .before .before .before .role-of .ensures) ∙ c .before .before .before .before .enum-told6 .given .1 in
-    puts-field (a .mode) (a .kind) (a .base) (a .input .now) (a .f) _ e (a .table .now) _ (a .row) _ (puts-one (a .table .now) _ (a .row) _ _ (c .before .before .write-leaf2 .ensures))
+    puts-field Groups (a .kind) (a .base) (a .input .now) (a .f) _ e (a .table .now) _ (a .row) _ (puts-one (a .table .now) _ (a .row) _ _ (c .before .before .write-leaf2 .ensures))
 
 write-field-same-length-3 : (t : ℕ) → write-field-lts.Need-same-length-3 (write-field-claims t) (write-field-at t) write-field.Post
 write-field-same-length-3 t c = search needs
@@ -175,21 +176,21 @@ write-field-returns-7 : (t : ℕ) → write-field-lts.Need-returns-7 (write-fiel
 write-field-returns-7 t c =
     let a = c .before .before .before .before .before .before .before .before .before .before .before .args in
     let e = sym (c .before .before .before .before .before .before .before .before .role-of .ensures) ∙ c .before .before .before .before .before .before .role .given .1 in
-    puts-field (a .mode) (a .kind) (a .base) (a .input .now) (a .f) _ e (a .table .now) _ (a .row) _ (c .before .before .write-message .ensures)
+    puts-field Groups (a .kind) (a .base) (a .input .now) (a .f) _ e (a .table .now) _ (a .row) _ (c .before .before .write-message .ensures)
 
 abbrev write-message-Inv-loop : write-message-lts.InvT-loop
-write-message-Inv-loop mode input kind base table₀ row at₀ next-row₀ table at next-row = ((next-row₀ + length (alongAt mode kind base input 0)) * 20 ≤ length table₀) × Left table₀ next-row₀ (alongAt mode kind base input 0) table next-row (alongAt mode kind base input at)
+write-message-Inv-loop input kind base table₀ row at₀ next-row₀ table at next-row = ((next-row₀ + length (alongAt Groups kind base input 0)) * 20 ≤ length table₀) × Left table₀ next-row₀ (alongAt Groups kind base input 0) table next-row (alongAt Groups kind base input at)
 
 abbrev write-message-μ-loop : write-message-lts.MeasureT-loop
-write-message-μ-loop mode input kind base table₀ row at₀ next-row₀ table at next-row = length input - at
+write-message-μ-loop input kind base table₀ row at₀ next-row₀ table at next-row = length input - at
 
 write-message-write-own-requires : (t : ℕ) → write-message-lts.Need-write-own-requires (write-message-claims t) (write-message-at t) write-message.Post write-message-Inv-loop write-message-μ-loop
-write-message-write-own-requires t c κs = let a = c .before .before .before .args in (c .before .before .before .pre .1 .0, omega (arith, rows-count (a .mode) (a .kind) (a .base) (a .input .now)))
+write-message-write-own-requires t c κs = let a = c .before .before .before .args in (c .before .before .before .pre .1 .0, omega (arith, rows-count Groups (a .kind) (a .base) (a .input .now)))
 
 write-message-loop-holds : (t : ℕ) → write-message-lts.Need-loop-holds (write-message-claims t) (write-message-at t) write-message.Post write-message-Inv-loop write-message-μ-loop
 write-message-loop-holds t c =
     let a = c .before .before .before .before .before .before .args in
-    (omega (arith, rows-count (a .mode) (a .kind) (a .base) (a .input .now), own-length (a .mode) (a .kind) (a .base) (a .input .now)), left-all _ _ _)
+    (omega (arith, rows-count Groups (a .kind) (a .base) (a .input .now), own-length Groups (a .kind) (a .base) (a .input .now)), left-all _ _ _)
 
 write-message-read-field-requires : (t : ℕ) → write-message-lts.Need-read-field-requires (write-message-claims t) (write-message-at t) write-message.Post write-message-Inv-loop write-message-μ-loop
 write-message-read-field-requires t c κs = search needs
@@ -204,8 +205,8 @@ write-message-returns : (t : ℕ) → write-message-lts.Need-returns (write-mess
 write-message-returns t c =
     let a = c .before .before .before .before .before .before .before .before .before .before .before .args in
     let l = c .before .before .before .before .loop in
-    let z = along-end (a .mode) (a .kind) (a .base) (a .input .now) (l .at) (sym (c .enum-told .given .1) ∙ c .before .before .read-field .ensures) in
-    puts-rows (a .mode) (a .kind) (a .base) (a .input .now) (a .table .now) _ _ (a .row) _ _ (c .before .before .before .before .before .before .before .write-own .ensures) (left-none _ _ _ _ _ _ (l .inv .1) z)
+    let z = along-end Groups (a .kind) (a .base) (a .input .now) (l .at) (sym (c .enum-told .given .1) ∙ c .before .before .read-field .ensures) in
+    puts-rows Groups (a .kind) (a .base) (a .input .now) (a .table .now) _ _ (a .row) _ _ (c .before .before .before .before .before .before .before .write-own .ensures) (left-none _ _ _ _ _ _ (l .inv .1) z)
 
 write-message-enum-told-2 : (t : ℕ) → write-message-lts.Need-enum-told-2 (write-message-claims t) (write-message-at t) write-message.Post write-message-Inv-loop write-message-μ-loop
 write-message-enum-told-2 t c = search needs
@@ -217,8 +218,8 @@ write-message-returns-2 : (t : ℕ) → write-message-lts.Need-returns-2 (write-
 write-message-returns-2 t c =
     let a = c .before .before .before .before .before .before .before .before .before .before .before .args in
     let l = c .before .before .before .before .loop in
-    let z = along-refused (a .mode) (a .kind) (a .base) (a .input .now) (l .at) _ (sym (c .enum-told2 .given .1) ∙ c .before .before .read-field .ensures) in
-    puts-rows (a .mode) (a .kind) (a .base) (a .input .now) (a .table .now) _ _ (a .row) _ _ (c .before .before .before .before .before .before .before .write-own .ensures) (left-none _ _ _ _ _ _ (l .inv .1) z)
+    let z = along-refused Groups (a .kind) (a .base) (a .input .now) (l .at) _ (sym (c .enum-told2 .given .1) ∙ c .before .before .read-field .ensures) in
+    puts-rows Groups (a .kind) (a .base) (a .input .now) (a .table .now) _ _ (a .row) _ _ (c .before .before .before .before .before .before .before .write-own .ensures) (left-none _ _ _ _ _ _ (l .inv .1) z)
 
 write-message-enum-known-step : (t : ℕ) → write-message-lts.Need-enum-known-step (write-message-claims t) (write-message-at t) write-message.Post write-message-Inv-loop write-message-μ-loop
 write-message-enum-known-step t c = search needs
@@ -228,17 +229,17 @@ write-message-write-field-requires t c κs =
     let a = c .before .before .before .before .before .before .before .before .before .before .before .before .before .args in
     let l = c .before .before .before .before .before .before .loop in
     let e = sym (c .before .before .step .given .1) ∙ c .before .before .before .before .read-field .ensures in
-    let m = field-stands (a .mode) (a .input .now) (l .at) _ e in
+    let m = field-stands Groups (a .input .now) (l .at) _ e in
     let f = c .before .before .step .given .0 .0 in
-    let r = fieldRows (a .mode) (a .kind) (a .base) (a .input .now) f in
-    let o = alongAt (a .mode) (a .kind) (a .base) (a .input .now) (f .next) in
-    let d = along-field (a .mode) (a .kind) (a .base) (a .input .now) (l .at) f e in
+    let r = fieldRows Groups (a .kind) (a .base) (a .input .now) f in
+    let o = alongAt Groups (a .kind) (a .base) (a .input .now) (f .next) in
+    let d = along-field Groups (a .kind) (a .base) (a .input .now) (l .at) f e in
     (omega (arith, c .before .before .before .before .before .before .before .before .before .before .before .before .before .pre .0), (c .before .before .before .before .before .before .before .before .before .before .before .before .before .pre .1 .0, record { order = m .ends; fits = m .within }, left-room _ _ _ _ _ _ (l .inv .1) r o d (l .inv .0)))
 
 write-message-loop-less : (t : ℕ) → write-message-lts.Need-loop-less (write-message-claims t) (write-message-at t) write-message.Post write-message-Inv-loop write-message-μ-loop
 write-message-loop-less t c =
     let a = c .before .before .before .before .before .before .before .before .before .before .before .before .before .before .before .before .args in
-    let m = field-stands (a .mode) (a .input .now) (c .before .before .before .before .before .before .before .before .before .loop .at) _ (sym (c .before .before .before .before .before .step .given .1) ∙ c .before .before .before .before .before .before .before .read-field .ensures) in
+    let m = field-stands Groups (a .input .now) (c .before .before .before .before .before .before .before .before .before .loop .at) _ (sym (c .before .before .before .before .before .step .given .1) ∙ c .before .before .before .before .before .before .before .read-field .ensures) in
     omega arith
 
 write-message-loop-again : (t : ℕ) → write-message-lts.Need-loop-again (write-message-claims t) (write-message-at t) write-message.Post write-message-Inv-loop write-message-μ-loop
@@ -246,9 +247,9 @@ write-message-loop-again t c =
     let a = c .before .before .before .before .before .before .before .before .before .before .before .before .before .before .before .before .args in
     let l = c .before .before .before .before .before .before .before .before .before .loop in
     let f = c .before .before .before .before .before .step .given .0 .0 in
-    let r = fieldRows (a .mode) (a .kind) (a .base) (a .input .now) f in
-    let o = alongAt (a .mode) (a .kind) (a .base) (a .input .now) (f .next) in
-    let e = along-field (a .mode) (a .kind) (a .base) (a .input .now) (l .at) f (sym (c .before .before .before .before .before .step .given .1) ∙ c .before .before .before .before .before .before .before .read-field .ensures) in
+    let r = fieldRows Groups (a .kind) (a .base) (a .input .now) f in
+    let o = alongAt Groups (a .kind) (a .base) (a .input .now) (f .next) in
+    let e = along-field Groups (a .kind) (a .base) (a .input .now) (l .at) f (sym (c .before .before .before .before .before .step .given .1) ∙ c .before .before .before .before .before .before .before .read-field .ensures) in
     (l .inv .0, left-part _ _ _ _ _ _ (l .inv .1) r o e _ _ (c .before .before .write-field .ensures))
 
 write-message-same-length-3 : (t : ℕ) → write-message-lts.Need-same-length-3 (write-message-claims t) (write-message-at t) write-message.Post write-message-Inv-loop write-message-μ-loop
@@ -259,8 +260,8 @@ write-message-returns-3 t c =
     let a = c .before .before .before .before .before .before .before .before .args in
     let l = c .before .loop in
     let h : length (a .input .now) ≤ l .at = omega arith in
-    let z = along-done (a .mode) (a .kind) (a .base) (a .input .now) (l .at) h in
-    puts-rows (a .mode) (a .kind) (a .base) (a .input .now) (a .table .now) _ _ (a .row) _ _ (c .before .before .before .before .write-own .ensures) (left-none _ _ _ _ _ _ (l .inv .1) z)
+    let z = along-done Groups (a .kind) (a .base) (a .input .now) (l .at) h in
+    puts-rows Groups (a .kind) (a .base) (a .input .now) (a .table .now) _ _ (a .row) _ _ (c .before .before .before .before .write-own .ensures) (left-none _ _ _ _ _ _ (l .inv .1) z)
 
 write-field-enum-told-7 : (t : ℕ) → write-field-lts.Need-enum-told-7 (write-field-claims t) (write-field-at t) write-field.Post
 write-field-enum-told-7 t c = search needs
@@ -269,7 +270,7 @@ write-field-returns-8 : (t : ℕ) → write-field-lts.Need-returns-8 (write-fiel
 write-field-returns-8 t c =
     let a = c .before .before .before .before .before .args in
     let e = sym (c .before .before .role-of .ensures) ∙ c .enum-told7 .given .1 in
-    puts-field (a .mode) (a .kind) (a .base) (a .input .now) (a .f) _ e (a .table .now) _ (a .row) _ (puts-none (a .table .now) (a .row))
+    puts-field Groups (a .kind) (a .base) (a .input .now) (a .f) _ e (a .table .now) _ (a .row) _ (puts-none (a .table .now) (a .row))
 
 pub +write-field+write-message-spec : {M : Type 1} → statement M
 +write-field+write-message-spec = close μ-write-field μ-write-message (λ t. write-field-lts.spec (write-field-claims t)

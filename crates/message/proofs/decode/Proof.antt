@@ -6,6 +6,11 @@ use mathlib.Core.Bool.{Bool}
 use native.Mathlib.Omega.{arith}
 use lib.ListN.{length}
 use borrow.Author.Tests.{lt-ltb, le-ltb}
+use lib.Seq.{sets}
+use Rattle.basis.specs.declared.Edition.{Edition}
+use Rattle.basis.specs.declared.Mode.{Mode}
+use Rattle.basis.specs.declared.Mode.the-variants.{Plain, Groups}
+use Rattle.basis.specs.Dialect.{spoken}
 use Rattle.basis.specs.declared.Dialect.{Dialect}
 use Rattle.basis.specs.Cases.{clash}
 use Rattle.basis.specs.Unique.{Leaves}
@@ -13,11 +18,15 @@ use Rattle.schema.specs.declared.Kind.the-variants as kind
 use Rattle.schema.specs.declared.Tested.{Tested}
 use Rattle.schema.specs.declared.Tested.the-variants as tested
 use Rattle.schema.specs.Schema.{ownOf}
+use Rattle.schema.specs.declared.Counted.the-variants as count
+use Rattle.schema.specs.Count.{counted}
 use Rattle.schema.specs.Accept.{bodyRecords}
 use Rattle.schema.specs.AcceptLaws.{Gate, large, bad, many, passes, gate}
 use Rattle.message.specs.declared.Decoded.{Decoded}
 use Rattle.message.specs.declared.Decoded.the-variants.{Records, Room}
-use Rattle.message.specs.Rows.{rowsOf}
+use Rattle.message.specs.declared.Record.{Record}
+use Rattle.message.specs.Rows.{rowsOf, wordsOfAll}
+use Rattle.message.specs.Modes.{same-has, same-rows}
 use Rattle.message.specs.RowsLaws.{rows-length}
 use Rattle.message.specs.Decode.{hasControl, onCount, decodeAnswer, leaves, decodeTable}
 use borrow.Author.Needs.{needs}
@@ -41,6 +50,26 @@ module _ (d : Dialect) (s : List ℕ) (words : ℕ) where
 
     fits : (c : Bool) → c ≡ hasControl (d .mode) s → n ≤ words / 20 → Records n c ≡ decodeAnswer d s words
     fits c k r = ap (Records n) k ∙ simp (le-ltb _ _ r) at (answered (tested.Records n) e)
+
+-- what was taken is read alike by the mode that passes over groups
+record Alike (d : Dialect) (s : List ℕ) : Type 0 where
+  rows : rowsOf Groups (kind.Rpc (d .edition)) 0 s ≡ rowsOf (d .mode) (kind.Rpc (d .edition)) 0 s
+  control : hasControl Groups s ≡ hasControl (d .mode) s
+
+alike-in : (mode : Mode) (e : Edition) (s : List ℕ) (n : ℕ) → counted mode (kind.Rpc e) s ≡ count.Records n
+    → Alike (spoken mode e) s
+unfolding hasControl
+alike-in Plain e s n q = record { rows = same-rows (kind.Rpc e) 0 s n q; control = same-has (kind.Rpc e) s n 3 q }
+alike-in Groups e s n q = record { rows = refl; control = refl }
+
+gate-alike : (d : Dialect) (s : List ℕ) (n : ℕ) (r : Tested) → Gate d s r → tested.Records n ≡ r → Alike d s
+gate-alike d s n _ (large h) e = clash (cc)
+gate-alike d s n _ (bad h why q) e = clash (cc)
+gate-alike d s n _ (many h m q x) e = clash (cc)
+gate-alike d s n _ (passes h m q x) e = alike-in (d .mode) (d .edition) s m q
+
+alike : (d : Dialect) (s : List ℕ) (n : ℕ) → tested.Records n ≡ bodyRecords d s → Alike d s
+alike d s n e = gate-alike d s n (bodyRecords d s) (gate d s) e
 
 -- a body that is taken is small, and the rows that were counted have room
 of-gate : (d : Dialect) (s t : List ℕ) (n : ℕ) (r : Tested) → Gate d s r → tested.Records n ≡ r → n ≤ length t / 20
@@ -78,7 +107,7 @@ write-message-requires : tie.Need-write-message-requires
 write-message-requires c κs =
     let a = c .before .before .before .before .before .before .before .before .before .args in
     let e = sym (c .before .before .before .before .c2 .given .1) ∙ c .before .before .before .before .before .before .body-records .ensures in
-    room (a .dialect) (a .body .now) (a .table .now) _ e (c .before .before .if1 .left)
+    rw (alike (a .dialect) (a .body .now) _ e .rows) (room (a .dialect) (a .body .now) (a .table .now) _ e (c .before .before .if1 .left))
 
 returns-2 : tie.Need-returns-2
 returns-2 c =
@@ -93,9 +122,13 @@ returns-3 : tie.Need-returns-3
 returns-3 c =
     let a = c .before .before .before .before .before .before .before .before .before .before .before .before .args in
     let e = sym (c .before .before .before .before .before .before .before .c2 .given .1) ∙ c .before .before .before .before .before .before .before .before .before .body-records .ensures in
-    let f = fits (a .dialect) (a .body .now) _ _ e _ (c .before .before .before .before .has-control .ensures) (c .before .before .before .before .before .if1 .left) in
+    let k = alike (a .dialect) (a .body .now) _ e in
+    let f = fits (a .dialect) (a .body .now) _ _ e _ (c .before .before .before .before .has-control .ensures ∙ k .control) (c .before .before .before .before .before .if1 .left) in
     let d = decided (a .dialect) (a .body .now) (a .table .now) _ f in
-    record { answer = d .answer; lent = c .before .before .write-message .ensures .1 ∙ d .lent }
+    record {
+      answer = d .answer;
+      lent = c .before .before .write-message .ensures .1 ∙ ap (λ (rs : List Record). sets (a .table .now) 0 (wordsOfAll rs)) (k .rows) ∙ d .lent;
+    }
 
 pub decode-spec : {M : Type 1} → statement M
 decode-spec =

@@ -4,6 +4,7 @@ use Rattle.message.proofs.Turns.{puts-own-none, puts-own}
 use borrow.Author.Needs.{needs}
 use Rattle.message.proofs.write_own.Statement.{statement}
 use Rattle.message.proofs.write_own.Tie as tie
+use Rattle.basis.specs.declared.Mode.the-variants.{Groups}
 
 own-requires : tie.Need-own-requires
 own-requires c κs = search needs
@@ -11,7 +12,7 @@ own-requires c κs = search needs
 returns : tie.Need-returns
 returns c =
     let a = c .before .before .before .before .args in
-    puts-own-none (a .mode) (a .kind) (a .base) (a .input .now) (a .table .now) (a .row) (sym (c .before .own .ensures) ∙ c .if1 .taken)
+    puts-own-none Groups (a .kind) (a .base) (a .input .now) (a .table .now) (a .row) (sym (c .before .own .ensures) ∙ c .if1 .taken)
 
 slots-of-requires : tie.Need-slots-of-requires
 slots-of-requires c κs = search needs
@@ -31,7 +32,7 @@ same-length c = search needs
 returns-2 : tie.Need-returns-2
 returns-2 c =
     let a = c .before .before .before .before .before .before .before .before .before .args in
-    puts-own (a .mode) (a .kind) (a .base) (a .input .now) (a .table .now) _ (a .row) _
+    puts-own Groups (a .kind) (a .base) (a .input .now) (a .table .now) _ (a .row) _
     (λ z. c .before .before .before .before .before .if1 .left (c .before .before .before .before .before .before .own .ensures ∙ z))
     (c .before .before .before .before .slots-of .ensures)
     (c .before .before .put-record .ensures)

@@ -28,15 +28,15 @@ is-short-requires c κs = search needs
 add-end : tie.Need-add-end
 add-end c = search needs
 
-cast-t21 : tie.Need-cast-t21
-cast-t21 c = omega (arith, (c .before .before .before .shared-slice-known2 .given) ((c .before .before .before .before .before .before .before .args .idx)))
+cast-t19 : tie.Need-cast-t19
+cast-t19 c = omega (arith, (c .before .before .before .shared-slice-known2 .given) ((c .before .before .before .before .before .before .args .idx)))
 
-cast-t22 : tie.Need-cast-t22
-cast-t22 c = omega (arith, (c .before .before .shared-slice-known3 .given) ((c .before .before .before .before .before .before .before .args .idx) + 1))
+cast-t20 : tie.Need-cast-t20
+cast-t20 c = omega (arith, (c .before .before .shared-slice-known3 .given) ((c .before .before .before .before .before .before .args .idx) + 1))
 
 returns : tie.Need-returns
-returns c = let a = (c .before .before .before .before .before .before .before .args) in let q = (c .before .is-short .ensures) (c .if3 .taken) in
-    short-number (a .mode) (a .input .now) (a .idx) _ _ (c .before .before .before .before .if2 .taken) refl refl (q .0) (q .1) (q .2) (q .3)
+returns c = let a = (c .before .before .before .before .before .before .args) in let q = (c .before .is-short .ensures) (c .if2 .taken) in
+    short-number (a .mode) (a .input .now) (a .idx) _ _ (c .before .before .before .before .if1 .taken) refl refl (q .0) (q .1) (q .2) (q .3)
 
 add-second : tie.Need-add-second
 add-second c = search needs
@@ -54,26 +54,26 @@ cast-len : tie.Need-cast-len
 cast-len c = search needs
 
 cast-len-2 : tie.Need-cast-len-2
-cast-len-2 c = omega (arith, (c .before .before .shared-slice-known4 .given) ((c .before .before .before .before .before .before .before .before .before .before .before .args .idx) + 1 + 1))
+cast-len-2 c = omega (arith, (c .before .before .shared-slice-known4 .given) ((c .before .before .before .before .before .before .before .before .before .before .args .idx) + 1 + 1))
 
 mul-len : tie.Need-mul-len
-mul-len c = omega (arith, (c .before .before .shared-slice-known4 .given) ((c .before .before .before .before .before .before .before .before .before .before .before .args .idx) + 1 + 1))
+mul-len c = omega (arith, (c .before .before .shared-slice-known4 .given) ((c .before .before .before .before .before .before .before .before .before .before .args .idx) + 1 + 1))
 
 add-len : tie.Need-add-len
-add-len c = omega (arith, (c .before .before .shared-slice-known4 .given) ((c .before .before .before .before .before .before .before .before .before .before .before .args .idx) + 1 + 1))
+add-len c = omega (arith, (c .before .before .shared-slice-known4 .given) ((c .before .before .before .before .before .before .before .before .before .before .args .idx) + 1 + 1))
 
-sub-if6 : tie.Need-sub-if6
-sub-if6 c = search needs
+sub-if5 : tie.Need-sub-if5
+sub-if5 c = search needs
 
-cast-t35 : tie.Need-cast-t35
-cast-t35 c = omega (arith, (c .before .before .before .before .before .before .before .before .shared-slice-known2 .given) ((c .before .before .before .before .before .before .before .before .before .before .before .before .args .idx)))
+cast-t33 : tie.Need-cast-t33
+cast-t33 c = omega (arith, (c .before .before .before .before .before .before .before .before .shared-slice-known2 .given) ((c .before .before .before .before .before .before .before .before .before .before .before .args .idx)))
 
-add-t37 : tie.Need-add-t37
-add-t37 c = search needs
+add-t35 : tie.Need-add-t35
+add-t35 c = search needs
 
 returns-2 : tie.Need-returns-2
-returns-2 c = let a = (c .before .before .before .before .before .before .before .before .before .before .before .before .args) in let q = (c .before .before .is-middle .ensures) (c .before .if5 .taken) in
-    middle-field (a .mode) (a .input .now) (a .idx) _ _ _ (c .before .before .before .before .if4 .taken) refl refl refl (q .0) (q .1) (q .2) (q .3) (q .4) (q .5) (c .if6 .taken)
+returns-2 c = let a = (c .before .before .before .before .before .before .before .before .before .before .before .args) in let q = (c .before .before .is-middle .ensures) (c .before .if4 .taken) in
+    middle-field (a .mode) (a .input .now) (a .idx) _ _ _ (c .before .before .before .before .if3 .taken) refl refl refl (q .0) (q .1) (q .2) (q .3) (q .4) (q .5) (c .if5 .taken)
 
 read-long-field-requires : tie.Need-read-long-field-requires
 read-long-field-requires c κs = search needs
@@ -90,8 +90,8 @@ read-any-field-spec =
     shared-slice-read-b
     is-short-requires
     add-end
-    cast-t21
-    cast-t22
+    cast-t19
+    cast-t20
     returns
     add-second
     shared-slice-read-h
@@ -101,9 +101,9 @@ read-any-field-spec =
     cast-len-2
     mul-len
     add-len
-    sub-if6
-    cast-t35
-    add-t37
+    sub-if5
+    cast-t33
+    add-t35
     returns-2
     read-long-field-requires
     returns-3)
