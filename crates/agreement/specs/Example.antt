@@ -1,7 +1,7 @@
 -- An example: two gateways, two messages, of which one is lost on its way to the first gateway, and histories that meet
 -- every premise, in which both editions are spoken. How often each message is got, new and a duplicate is computed for
 -- it; a round between the two follows in ExampleRound.
-use Prim.Native.Nat.{ℕ, zero, suc, _+_, _-_, _*_, _^_, _≤_, _<_}
+use Prim.Native.Nat.{ℕ, zero, suc, _+_, _-_, _^_, _≤_, _<_}
 use mathlib.Core.Path.{_≡_, refl, sym, ap, subst, _∙_}
 use mathlib.Core.Bool.{true, or-true}
 use mathlib.Core.List.{List, [], _∷_, _++_}
@@ -13,7 +13,6 @@ use Rattle.basis.specs.declared.Edition.{Edition}
 use Rattle.basis.specs.declared.Edition.the-variants.{V11, V12}
 use Rattle.basis.specs.Cases.{either, clash, both}
 use Rattle.basis.specs.Bytes.{Bytes}
-use Rattle.basis.specs.Lists.{zeros-bytes}
 use Rattle.peer_id.specs.Uvarint.{readUvarint, readFrom, groupOf}
 use Rattle.utf8.specs.Utf8.{isUtf8, run}
 use Rattle.protobuf.specs.Field.{readTag, readLen, readVarint, skipFixed, skipField, readValue, readField}
@@ -34,18 +33,18 @@ use Rattle.rows.specs.Rows.{newest}
 use Rattle.rows.specs.Ids.{sameBytes, among}
 use Rattle.rows.specs.IdsLaws.{same-self, same-equal}
 use Rattle.rows.specs.Store.{allUpTo}
-use Rattle.seen.specs.State.{idSize}
 use Rattle.seen.specs.Entries.{holds, until, inserted, live}
 use Rattle.mcache.specs.Messages.{held, put, shift}
-use Rattle.mcache.specs.State.{legal, messageSize}
+use Rattle.mcache.specs.State.{legal}
 use Rattle.node.specs.Calls.{maxRpcSize}
 use Rattle.node.specs.Gateway.{started, isNew, afterAdmit, afterBeat}
-use Rattle.node.specs.State.{legalSettings, freshNode, risesFrom}
+use Rattle.node.specs.State.{legalSettings, risesFrom}
 use Rattle.history.specs.History.{State, Settings, Fresh, Call, admit, heartbeat, readings, beats as beatsIn, timesGot}
 use Rattle.history.specs.History.{timesNew, timesDuplicate}
 use Rattle.history.specs.Laws.{startedBy}
 use Rattle.history.specs.Script.{Carries, Act, gets, beats, callsOf, gotIn, newIn, Written, nothing, got, beaten}
 use Rattle.history.specs.ScriptLaws.{fresh-acted, fresh-new}
+use Rattle.history.specs.Samples.{signature, first-sender, start, start-fresh}
 use Rattle.agreement.specs.Premises.{MessageSet, Members, Alike, Clock, Premises}
 use Rattle.agreement.specs.Round.{Play, Fair}
 use Rattle.agreement.specs.Script.{inSet, script-members}
@@ -54,22 +53,7 @@ use Rattle.agreement.specs.Script.{inSet, script-members}
 abbrev pub topic : List ℕ
 topic = 0x74 ∷ []
 
--- 64 bytes; whether they sign is the host's word
-unfoldable pub signature : List ℕ
-signature =
-    0x01 ∷ 0x02 ∷ 0x03 ∷ 0x04 ∷ 0x05 ∷ 0x06 ∷ 0x07 ∷ 0x08 ∷ 0x09 ∷ 0x0a ∷ 0x0b ∷ 0x0c ∷ 0x0d ∷ 0x0e ∷ 0x0f ∷ 0x10 ∷
-    0x11 ∷ 0x12 ∷ 0x13 ∷ 0x14 ∷ 0x15 ∷ 0x16 ∷ 0x17 ∷ 0x18 ∷ 0x19 ∷ 0x1a ∷ 0x1b ∷ 0x1c ∷ 0x1d ∷ 0x1e ∷ 0x1f ∷ 0x20 ∷
-    0x21 ∷ 0x22 ∷ 0x23 ∷ 0x24 ∷ 0x25 ∷ 0x26 ∷ 0x27 ∷ 0x28 ∷ 0x29 ∷ 0x2a ∷ 0x2b ∷ 0x2c ∷ 0x2d ∷ 0x2e ∷ 0x2f ∷ 0x30 ∷
-    0x31 ∷ 0x32 ∷ 0x33 ∷ 0x34 ∷ 0x35 ∷ 0x36 ∷ 0x37 ∷ 0x38 ∷ 0x39 ∷ 0x3a ∷ 0x3b ∷ 0x3c ∷ 0x3d ∷ 0x3e ∷ 0x3f ∷ 0x40 ∷
-    []
-
--- the senders: identities over the keys of two Ed25519 pairs
-abbrev pub first-sender : List ℕ
-first-sender =
-    0x00 ∷ 0x24 ∷ 0x08 ∷ 0x01 ∷ 0x12 ∷ 0x20 ∷
-    0x1e ∷ 0xd1 ∷ 0xe8 ∷ 0xfa ∷ 0xe2 ∷ 0xc4 ∷ 0xa1 ∷ 0x44 ∷ 0xb8 ∷ 0xbe ∷ 0x8f ∷ 0xd4 ∷ 0xb4 ∷ 0x7b ∷ 0xf3 ∷ 0xd3 ∷
-    0xb3 ∷ 0x4b ∷ 0x87 ∷ 0x1c ∷ 0x3c ∷ 0xac ∷ 0xf6 ∷ 0x01 ∷ 0x0f ∷ 0x0e ∷ 0x42 ∷ 0xd4 ∷ 0x74 ∷ 0xfc ∷ 0xe2 ∷ 0x7e ∷ []
-
+-- a second sender: an identity over the key of another Ed25519 pair
 abbrev pub second-sender : List ℕ
 second-sender =
     0x00 ∷ 0x24 ∷ 0x08 ∷ 0x01 ∷ 0x12 ∷ 0x20 ∷
@@ -194,28 +178,6 @@ settings-a = record { ttl = 100; max-seen = 2; history-len = 2; max-messages = 2
 
 abbrev pub settings-b : Settings
 settings-b = record { ttl = 50; max-seen = 3; history-len = 3; max-messages = 4; flags = 0 }
-
--- a fresh node with stores of zeros
-unfoldable pub start : Settings → State
-start x =
-    record {
-      node = freshNode (x .ttl) (x .max-seen) (x .history-len) (x .max-messages) (x .flags);
-      ids = replicate (x .max-seen * idSize) 0;
-      messages = replicate (x .max-messages * messageSize) 0;
-    }
-
-pub start-fresh : (x : Settings) → x .ttl < 2 ^ 64
-    → legalSettings (x .max-seen) (x .history-len) (x .max-messages) (x .flags) ≡ true → Fresh x (start x)
-unfolding start
-start-fresh x small ok =
-    record {
-      small = small;
-      legal = ok;
-      node = refl;
-      ids = length-replicate (x .max-seen * idSize) 0;
-      messages = length-replicate (x .max-messages * messageSize) 0;
-      bytes = zeros-bytes (x .max-messages * messageSize);
-    }
 
 pub fresh-a : Fresh settings-a (start settings-a)
 unfolding legalSettings legal knownFlags

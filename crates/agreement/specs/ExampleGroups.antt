@@ -34,11 +34,12 @@ use Rattle.node.specs.Gateway.{Gateway, started, isNew, afterAdmit, toldOf, kno
 use Rattle.history.specs.History.{Call, afterAll}
 use Rattle.history.specs.Laws.{carried-brought}
 use Rattle.history.specs.Script.{Carries}
+use Rattle.history.specs.Samples.{signature, start}
 use Rattle.agreement.specs.Premises.{MessageSet, Alike, Premises}
 use Rattle.agreement.specs.Round.{missing, lacked, Fair}
 use Rattle.agreement.specs.CatchUp.{allAsked, allTold, CaughtUp}
-use Rattle.agreement.specs.Example.{topic, signature, second-sender, first, first-id, second-id, first-body}
-use Rattle.agreement.specs.Example.{upto-bytes, ids-differ, start, play}
+use Rattle.agreement.specs.Example.{topic, second-sender, first, first-id, second-id, first-body}
+use Rattle.agreement.specs.Example.{upto-bytes, ids-differ, play}
 use Rattle.agreement.specs.Pair.{Pair, settingsA, settingsB, callsA, callsB, atA, atB, gatewayA, gatewayB}
 use Rattle.agreement.specs.Pair.{reading, message-set, premises-a, premises-b, fair, a-lacks, round-done, none-lacking}
 

@@ -33,6 +33,7 @@ use Rattle.history.specs.History.{State, gatewayOf, Call, admit, ask, after, af
 use Rattle.history.specs.Laws.{startedBy}
 use Rattle.history.specs.Script.{Act, gets, asks, callsOf, gatewayAfter, Written, nothing, got, asked}
 use Rattle.history.specs.ScriptLaws.{fresh-leaves}
+use Rattle.history.specs.Samples.{signature, start}
 use Rattle.agreement.specs.Premises.{Clock}
 use Rattle.agreement.specs.Round.{missing, lacked, advertBy, advertOf, requestOf, replyOf, askerRound}
 use Rattle.agreement.specs.Round.{tellerRound, askerRounds, tellerRounds}
@@ -43,9 +44,9 @@ use Rattle.agreement.specs.Played.{advertise-is, requested, one-replied,
 use Rattle.agreement.specs.Request.{request-is-exact}
 use Rattle.agreement.specs.CatchUp.{allAsked, allTold, CaughtUp, caught-up, all-arrived}
 use Rattle.agreement.specs.Identical.{Identical, identical-bytes}
-use Rattle.agreement.specs.Example.{topic, signature, first, second, messages, first-id, second-id, first-body}
+use Rattle.agreement.specs.Example.{topic, first, second, messages, first-id, second-id, first-body}
 use Rattle.agreement.specs.Example.{second-body, first-carried, second-carried, message-set, settings-a}
-use Rattle.agreement.specs.Example.{settings-b, start, fresh-a, fresh-b, calls-a, calls-b, script-a, script-b}
+use Rattle.agreement.specs.Example.{settings-b, fresh-a, fresh-b, calls-a, calls-b, script-a, script-b}
 use Rattle.agreement.specs.Example.{calls-a-written, calls-b-written, written-a, written-b, clock-by, premises-a}
 use Rattle.agreement.specs.Example.{premises-b, buffer, buffer-full, play, fair, alike}
 

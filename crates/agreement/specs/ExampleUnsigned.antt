@@ -4,7 +4,7 @@
 use Prim.Native.Nat.{ℕ}
 use mathlib.Core.Path.{_≡_, refl, ap}
 use mathlib.Core.Bool.{true, false}
-use mathlib.Core.List.{List, [], _∷_, _++_}
+use mathlib.Core.List.{List, [], _∷_}
 use mathlib.Core.Option.{some}
 use native.Mathlib.Omega.{arith}
 use lib.ListN.{getD}
@@ -21,10 +21,9 @@ use Rattle.schema.specs.Kinds.{toDepth, overKinds}
 use Rattle.schema.specs.Count.{textCount, counted}
 use Rattle.schema.specs.Slots.{setPlace, withField, slotsOf}
 use Rattle.schema.specs.Accept.{bodyRecords, acceptOf}
-use Rattle.ids.specs.Ids.{messageAt, idParts}
-use Rattle.peer_id.specs.PeerId.{hashOf, fromBytes}
+use Rattle.ids.specs.Ids.{messageAt}
 use Rattle.admission.specs.Flags.{knownFlags, allowsUnsigned}
-use Rattle.admission.specs.Admission.{topicsOf, firstLong, onLimits, isPeerId, admissionOf, isSigned, vouched, givesId}
+use Rattle.admission.specs.Admission.{topicsOf, isSigned, vouched}
 use Rattle.rows.specs.Rows.{newest}
 use Rattle.rows.specs.Ids.{sameBytes, precedesBytes, among}
 use Rattle.rows.specs.IdsLaws.{same-self}
@@ -33,43 +32,16 @@ use Rattle.seen.specs.Entries.{holds, until, inserted, live}
 use Rattle.mcache.specs.Messages.{held, put, get, carrying, enterId, inOrder, gossipIds}
 use Rattle.node.specs.Gateway.{Gateway, started, isNew, afterAdmit, toldOf, knows, lacking, having}
 use Rattle.history.specs.History.{Call, admit, afterAll, brought, timesGot, timesNew}
-use Rattle.history.specs.Script.{Carries}
+use Rattle.history.specs.Samples.{unsigned, idOf, unsignedBody, unsigned-carried, start}
 use Rattle.agreement.specs.Premises.{MessageSet, Alike, Premises}
 use Rattle.agreement.specs.Round.{missing, lacked, Fair}
 use Rattle.agreement.specs.Once.{new-exactly-once}
 use Rattle.agreement.specs.CatchUp.{allAsked, allTold, CaughtUp}
-use Rattle.agreement.specs.Example.{topic, first-sender, upto-bytes, start, play}
+use Rattle.agreement.specs.Example.{topic, upto-bytes, play}
 use Rattle.agreement.specs.Pair.{Pair, settingsA, settingsB, callsA, callsB, atA, atB, gatewayA, gatewayB}
 use Rattle.agreement.specs.Pair.{reading, message-set, premises-a, premises-b, fair, a-lacks, round-done, none-lacking}
 
--- ---- the messages: a sender, a seqno, the topic `t`, and no signature
-unfoldable pub unsigned : ℕ → List ℕ
-unsigned n = 0x0a ∷ 0x26 ∷ (first-sender ++ (0x1a ∷ 0x01 ∷ n ∷ 0x22 ∷ 0x01 ∷ 0x74 ∷ []))
-
--- their ids, from and seqno
-abbrev pub idOf : ℕ → List ℕ
-idOf n = first-sender ++ (n ∷ [])
-
--- the bodies in which they come
-unfoldable pub unsignedBody : ℕ → List ℕ
-unsignedBody n = 0x12 ∷ 0x2e ∷ unsigned n
-
-pub first-carried : (ed : Edition) → Carries 1 ed (unsignedBody 1) (unsigned 1) (idOf 1)
-unfolding unsigned unsignedBody acceptOf bodyRecords counted overKinds toDepth textCount roleOf rank ownOf isUtf8 run
-    walkAt walkFrom readField readValue skipField skipFixed readVarint readLen readTag readUvarint readFrom groupOf
-    messageAt givesId admissionOf allowsUnsigned onLimits topicsOf firstLong idParts slotsOf withField setPlace
-    sameBytes isPeerId fromBytes hashOf
-first-carried ed =
-    record { accepted = refl; placed = record { start = 2; next = 48; found = refl; bytes = refl }; own = refl }
-
-pub second-carried : (ed : Edition) → Carries 1 ed (unsignedBody 2) (unsigned 2) (idOf 2)
-unfolding unsigned unsignedBody acceptOf bodyRecords counted overKinds toDepth textCount roleOf rank ownOf isUtf8 run
-    walkAt walkFrom readField readValue skipField skipFixed readVarint readLen readTag readUvarint readFrom groupOf
-    messageAt givesId admissionOf allowsUnsigned onLimits topicsOf firstLong idParts slotsOf withField setPlace
-    sameBytes isPeerId fromBytes hashOf
-second-carried ed =
-    record { accepted = refl; placed = record { start = 2; next = 48; found = refl; bytes = refl }; own = refl }
-
+-- ---- the messages: the samples without a signature, with seqno 1 and 2
 first-bytes : Bytes (unsigned 1)
 unfolding unsigned allUpTo
 first-bytes = upto-bytes (unsigned 1) refl
@@ -96,8 +68,8 @@ pub two : Pair 1 false (unsigned 1) (idOf 1) (unsignedBody 1) (unsigned 2) (idOf
 two =
     record {
       known = allowed;
-      first = first-carried;
-      second = second-carried;
+      first = unsigned-carried 1;
+      second = unsigned-carried 2;
       comes = wordless V12 10;
       bytes-first = first-bytes;
       bytes-second = second-bytes;

@@ -72,34 +72,28 @@ use Rattle.history.specs.History.{explain, planIn, after, afterAll, refusalAt, 
 use Rattle.history.specs.History.{timesNew, servedBytes, servedMessages, admits}
 use Rattle.history.specs.Laws.{after-append, startedBy, history-keeps, fresh-starts, refused-stays, after-flags}
 use Rattle.history.specs.Laws.{history-flags, brings-exactly, fresh-keeps, fresh-flags}
+use Rattle.history.specs.Samples.{signature, first-sender, message, unsigned, idOf, unsignedBody, message-carried, start}
 use Rattle.agreement.specs.Round.{missing, lacked, Play, onward, Fair, fair-onward, advertOf, requestOf, replyOf}
 use Rattle.agreement.specs.Round.{servedCount, askerRound, tellerRound, askerRounds, tellerRounds}
 use Rattle.agreement.specs.Holding.{Holding, holding-fresh}
 use Rattle.agreement.specs.Played.{one-replied, one-round}
 use Rattle.agreement.specs.CatchUp.{teller-stays}
 use Rattle.agreement.specs.Fifteen.{longest-field, some-fit, longest-fit}
-use Rattle.agreement.specs.Example.{signature, first-sender, second-id, settings-a, start, fresh-a, fresh-b}
+use Rattle.agreement.specs.Example.{second-id, settings-a, fresh-a, fresh-b}
 use Rattle.agreement.specs.Example.{calls-b, play, fair-for}
 use Rattle.agreement.specs.ExampleRound.{a-lacks-the-second, request-bytes}
 use Rattle.agreement.specs.ExampleRound.{at-a as lacking-a, at-b as holding-it}
 use Rattle.agreement.specs.Pair.{atA, gatewayA, a-is, holding-a}
-use Rattle.agreement.specs.ExampleUnsigned.{unsigned, idOf, unsignedBody, two as unsigned-two}
+use Rattle.agreement.specs.ExampleUnsigned.{two as unsigned-two}
 use Rattle.agreement.specs.ExampleGroups.{grouped, grouped-body, turned as grouped-alone}
 
--- ---- small messages: a sender, a seqno, the topic `t`, a signature
+-- ---- the small messages of the samples
 abbrev pub topic : List ℕ
 topic = 116 ∷ []
 
-abbrev pub message : ℕ → List ℕ
-message n = 10 ∷ 38 ∷ (first-sender ++ (26 ∷ 1 ∷ n ∷ 34 ∷ 1 ∷ 116 ∷ 42 ∷ 64 ∷ signature))
-
 -- they pass admission, under these ids
-pub admissible : (givesId 0 (message 1) (idOf 1) ≡ true) × (givesId 0 (message 2) (idOf 2) ≡ true)
-unfolding signature counted overKinds toDepth textCount roleOf rank ownOf isUtf8 run walkAt walkFrom readField readValue
-    skipField skipFixed readVarint readLen readTag readUvarint readFrom groupOf givesId admissionOf onLimits topicsOf
-    firstLong idParts slotsOf withField setPlace sameBytes isPeerId keyInside isKey fromBytes hashOf decodeProtobuf
-    typeOf onData onTotal
-admissible = (refl, refl)
+pub admissible : (n : ℕ) → givesId 0 (message n) (idOf n) ≡ true
+admissible n = message-carried n V11 .own
 
 -- a gateway, and one of these messages admitted at a reading
 abbrev pub with : ℕ → ℕ → Gateway → Gateway
@@ -113,7 +107,7 @@ pub record NewTwice (at later : ℕ) (g h : Gateway) : Type 0 where
 -- ---- the set is no larger than max_seen
 -- two messages and room for one id: the second drives the first out, which is then new again
 pub needs-set-seen : NewTwice 1 3 (started 100 1 2 4 0) (with 2 2 (with 1 1 (started 100 1 2 4 0)))
-unfolding signature isSigned slotsOf withField setPlace roleOf walkAt walkFrom readField readValue skipField skipFixed
+unfolding signature message isSigned slotsOf withField setPlace roleOf walkAt walkFrom readField readValue skipField skipFixed
     readVarint readLen readTag readUvarint readFrom groupOf started isNew afterAdmit holds among sameBytes live inserted
     newest until held put
 needs-set-seen = record { first = refl; again = refl }
@@ -122,14 +116,14 @@ needs-set-seen = record { first = refl; again = refl }
 -- the set is message 1 alone and has room; a message from outside it drives the first out, which is then new again
 pub needs-members : (length (message 1 ∷ []) ≡ 1) × (among (message 2) (message 1 ∷ []) ≡ false)
     × NewTwice 1 3 (started 100 1 2 4 0) (with 2 2 (with 1 1 (started 100 1 2 4 0)))
-unfolding among sameBytes
+unfolding message among sameBytes
 needs-members = (refl, refl, needs-set-seen)
 
 -- ---- readings are less than ttl after the first
 -- at ttl after the first reading its id is cleaned up, and the message is new again
 pub needs-within-ttl : NewTwice 1 101 (started 100 4 2 4 0)
     (with 1 1 (started 100 4 2 4 0))
-unfolding signature isSigned slotsOf withField setPlace roleOf walkAt walkFrom readField readValue skipField skipFixed
+unfolding signature message isSigned slotsOf withField setPlace roleOf walkAt walkFrom readField readValue skipField skipFixed
     readVarint readLen readTag readUvarint readFrom groupOf started isNew afterAdmit holds among sameBytes live inserted
     newest until held put
 needs-within-ttl = record { first = refl; again = refl }
@@ -138,7 +132,7 @@ needs-within-ttl = record { first = refl; again = refl }
 -- an expiry stops at 2^64 - 1, which is at most that reading: the message is new again at once
 pub needs-below-last : NewTwice (2 ^ 64 - 1) (2 ^ 64 - 1) (started 100 4 2 4 0)
     (with (2 ^ 64 - 1) 1 (started 100 4 2 4 0))
-unfolding signature isSigned slotsOf withField setPlace roleOf walkAt walkFrom readField readValue skipField skipFixed
+unfolding signature message isSigned slotsOf withField setPlace roleOf walkAt walkFrom readField readValue skipField skipFixed
     readVarint readLen readTag readUvarint readFrom groupOf started isNew afterAdmit holds among sameBytes live inserted
     newest until held put
 needs-below-last = record { first = refl; again = refl }
@@ -158,7 +152,7 @@ pub needs-fresh :
       cache = [];
     })
     ≡ false
-unfolding signature isSigned slotsOf withField setPlace roleOf walkAt walkFrom readField readValue skipField skipFixed
+unfolding signature message isSigned slotsOf withField setPlace roleOf walkAt walkFrom readField readValue skipField skipFixed
     readVarint readLen readTag readUvarint readFrom groupOf isNew holds among sameBytes live
 needs-fresh = refl
 
@@ -176,7 +170,7 @@ pub record NeverNew (m k id : List ℕ) (g : Gateway) : Type 0 where
   pub not-kept : having (afterAdmit 2 k id (afterAdmit 1 m id g)) (id ∷ []) ≡ m ∷ []
 
 pub needs-ids-differ : NeverNew (message 1) otherMessage (idOf 1) (started 100 4 2 4 0)
-unfolding signature isSigned slotsOf withField setPlace roleOf walkAt walkFrom readField readValue skipField skipFixed
+unfolding signature message isSigned slotsOf withField setPlace roleOf walkAt walkFrom readField readValue skipField skipFixed
     readVarint readLen readTag readUvarint readFrom groupOf started isNew afterAdmit holds among live inserted newest
     until held put having get counted overKinds toDepth textCount rank ownOf isUtf8 run givesId admissionOf onLimits
     topicsOf firstLong idParts sameBytes isPeerId keyInside isKey fromBytes hashOf decodeProtobuf typeOf onData onTotal
@@ -504,7 +498,7 @@ pub record Apart (windows : ℕ) (a b : Gateway) (tells-a tells-b : List (List �
 -- two messages and room for one: both gateways have seen both, and each holds the one that it got last
 pub needs-set-cached : Apart 2 (with 2 2 (with 1 1 (started 100 4 2 1 0))) (with 2 1 (with 1 2 (started 100 4 2 1 0)))
     (idOf 2 ∷ []) (idOf 1 ∷ [])
-unfolding signature isSigned slotsOf withField setPlace roleOf walkAt walkFrom readField readValue skipField skipFixed
+unfolding signature message isSigned slotsOf withField setPlace roleOf walkAt walkFrom readField readValue skipField skipFixed
     readVarint readLen readTag readUvarint readFrom groupOf started isNew afterAdmit holds among sameBytes live inserted
     newest until held put missing knows allowsUnsigned gossipIds inOrder enterId carrying topicsOf
 needs-set-cached = record { a-lacks = refl; b-lacks = refl; a-tells = refl; b-tells = refl }
@@ -513,7 +507,7 @@ needs-set-cached = record { a-lacks = refl; b-lacks = refl; a-tells = refl; b-te
 -- both got the message; after as many heartbeats as history_len one holds it no more, and tells of nothing
 pub needs-few-heartbeats : Apart 2 (afterBeat 3 (afterBeat 2 (with 1 1 (started 100 4 2 4 0))))
     (with 1 1 (started 100 4 2 4 0)) [] (idOf 1 ∷ [])
-unfolding signature isSigned slotsOf withField setPlace roleOf walkAt walkFrom readField readValue skipField skipFixed
+unfolding signature message isSigned slotsOf withField setPlace roleOf walkAt walkFrom readField readValue skipField skipFixed
     readVarint readLen readTag readUvarint readFrom groupOf started isNew afterAdmit afterBeat holds among sameBytes
     live inserted newest until held put shift missing knows allowsUnsigned gossipIds inOrder enterId carrying topicsOf
 needs-few-heartbeats = record { a-lacks = refl; b-lacks = refl; a-tells = refl; b-tells = refl }
@@ -527,7 +521,7 @@ pub record Untold (told : List (List ℕ)) (a b : Gateway) : Type 0 where
 -- after one heartbeat the message is in the second window, and one window is told of: it is lacking, and not asked for
 pub needs-windows : Untold (toldOf topic 1 (afterBeat 2 (with 1 1 (started 100 4 2 4 0)))) (started 100 4 2 4 0)
     (afterBeat 2 (with 1 1 (started 100 4 2 4 0)))
-unfolding signature isSigned slotsOf withField setPlace roleOf walkAt walkFrom readField readValue skipField skipFixed
+unfolding signature message isSigned slotsOf withField setPlace roleOf walkAt walkFrom readField readValue skipField skipFixed
     readVarint readLen readTag readUvarint readFrom groupOf started isNew afterAdmit afterBeat holds among sameBytes
     live inserted newest until held put shift missing knows allowsUnsigned lacking gossipIds inOrder enterId carrying
     topicsOf
@@ -537,7 +531,7 @@ needs-windows = record { lacks = refl; asks = refl }
 -- the teller gets a message after it told: it is lacking, and not asked for
 pub needs-undisturbed : Untold (toldOf topic 2 (started 100 4 2 4 0)) (started 100 4 2 4 0)
     (with 1 1 (started 100 4 2 4 0))
-unfolding signature isSigned slotsOf withField setPlace roleOf walkAt walkFrom readField readValue skipField skipFixed
+unfolding signature message isSigned slotsOf withField setPlace roleOf walkAt walkFrom readField readValue skipField skipFixed
     readVarint readLen readTag readUvarint readFrom groupOf started isNew afterAdmit holds among sameBytes live inserted
     newest until held put missing knows allowsUnsigned lacking gossipIds inOrder enterId carrying topicsOf
 needs-undisturbed = record { lacks = refl; asks = refl }

@@ -24,13 +24,14 @@ use Rattle.history.specs.Laws.{node-clock, startedBy, fresh-keeps, fresh-starts
 use Rattle.history.specs.Laws.{brought-plan}
 use Rattle.history.specs.Script.{Carries, Act, gets, callsOf, gatewayAfter, Written, nothing, got}
 use Rattle.history.specs.ScriptLaws.{fresh-leaves}
+use Rattle.history.specs.Samples.{start, start-fresh}
 use Rattle.agreement.specs.Premises.{MessageSet, Members, none-left, member, Clock, Premises}
 use Rattle.agreement.specs.Round.{missing, lacked, Fair, advertOf, askerRound, askerRounds}
 use Rattle.agreement.specs.Holding.{member-some, gotAll, pastAll, Holding, holding-all}
 use Rattle.agreement.specs.Played.{one-round as one-asked}
 use Rattle.agreement.specs.CatchUp.{allAsked, allTold, CaughtUp, caught-up, all-arrived}
 use Rattle.agreement.specs.Script.{inSet, script-members}
-use Rattle.agreement.specs.Example.{topic, two-set, two-in, start, start-fresh, clock-by, buffer, play, fair-for}
+use Rattle.agreement.specs.Example.{topic, two-set, two-in, clock-by, buffer, play, fair-for}
 
 -- ---- the messages m and k, their ids i and j, and a body that brings each, under some flags; the first comes also
 -- with this word of the host

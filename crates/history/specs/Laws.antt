@@ -242,6 +242,54 @@ pub history-flags : {x : Settings} {s : State} (calls : List Call) → Fresh x s
     → gatewayOf (afterAll calls s) .flags ≡ x .flags
 history-flags {x} {s} calls f = all-flags calls s ∙ fresh-flags f
 
+-- ---- nor how long and how many ids are seen
+abbrev Lasting : Node → Node → Type 0
+Lasting n m = (n .ttl ≡ m .ttl) × (n .«max_seen» ≡ m .«max_seen»)
+
+plan-lasting : (n : Node) (ss : List ℕ) (at : ℕ) (p : Plan) → Lasting (admitNode n ss at p) n
+unfolding laterNode
+plan-lasting n ss at (no r) = (refl, refl)
+plan-lasting n ss at (taken m id) =
+    either (heldAt n ss at (formOf (modeOf (n .cache .flags)) m id)) (λ t. rw t (refl, refl)) (λ t. rw t (refl, refl))
+
+beat-lasting : (n : Node) (ss cs : List ℕ) (at : ℕ) (r : Beat) → beatAnswer n ss cs at ≡ r
+    → Lasting (beatNode n ss cs at) n
+unfolding beatNode laterNode
+beat-lasting n ss cs at beaten.Done e = rw e (refl, refl)
+beat-lasting n ss cs at (beaten.Faulty why) e = rw e (refl, refl)
+beat-lasting n ss cs at (beaten.ClockBack clock) e = rw e (refl, refl)
+
+after-lasting : (c : Call) (s : State) → Lasting (after c s .node) (s .node)
+unfolding after
+after-lasting (admit ed body i word at) s = plan-lasting (s .node) (s .ids) at (planIn s ed body i word at)
+after-lasting (heartbeat at) s =
+    beat-lasting (s .node) (s .ids) (s .messages) at (beatAnswer (s .node) (s .ids) (s .messages) at) refl
+after-lasting (advertise topic windows out) s = (refl, refl)
+after-lasting (ask ed body out) s = (refl, refl)
+after-lasting (serve ed body second out) s = (refl, refl)
+after-lasting (explain id topic windows) s = (refl, refl)
+
+-- they are those of the settings
+pub record Set (x : Settings) (g : Gateway) : Type 0 where
+  pub ttl : g .ttl ≡ x .ttl
+  pub max-seen : g .max-seen ≡ x .max-seen
+
+pub after-set : {x : Settings} (c : Call) (s : State) → Set x (gatewayOf s) → Set x (gatewayOf (after c s))
+unfolding gatewayIn
+after-set c s h = let l = after-lasting c s in record { ttl = l .0 ∙ h .ttl; max-seen = l .1 ∙ h .max-seen }
+
+pub all-set : {x : Settings} (calls : List Call) (s : State) → Set x (gatewayOf s) → Set x (gatewayOf (afterAll calls s))
+unfolding afterAll
+all-set [] s h = h
+all-set (c ∷ cs) s h = all-set cs (after c s) (after-set c s h)
+
+started-set : (x : Settings) → Set x (startedBy x)
+unfolding started
+started-set x = record { ttl = refl; max-seen = refl }
+
+pub history-set : {x : Settings} {s : State} (calls : List Call) → Fresh x s → Set x (gatewayOf (afterAll calls s))
+history-set {x} {s} calls f = all-set calls s (subst (Set x) (sym (fresh-starts f)) (started-set x))
+
 -- ---- what a call brings
 -- an admit brings m exactly where m is vouched for, the body is accepted, and m stands at the index
 module _ (flags : ℕ) (ed : Edition) (body : List ℕ) (i : ℕ) (at : ℕ) where

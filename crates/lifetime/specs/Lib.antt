@@ -1,0 +1,6 @@
+-- To be believed: Lifetime.
+pub mod Lifetime
+pub mod Back
+pub mod Steps
+pub mod Followed
+pub mod Never

@@ -1,0 +1,67 @@
+-- Never twice within a lifetime. For one gateway and every history of calls from fresh, each lent the node and stores as
+-- the last one left them, any bodies, words, readings and buffers, evictions and refused calls included: where two
+-- admits made one seen form new, the second reading is at least ttl after the first, or at least max_seen calls between
+-- them made another form new.
+use Prim.Native.Nat.{ℕ, _+_, _-_, _^_, _≤_, _<_}
+use mathlib.Core.Path.{_≡_, refl, sym, ap, subst, _∙_}
+use mathlib.Core.Bool.{Bool}
+use mathlib.Core.List.{List, [], _∷_}
+use mathlib.Core.Logic.{_⊎_, inl, inr, ⊎-elim}
+use mathlib.Core.Option.{Option, some}
+use native.Mathlib.Omega.{arith}
+use Rattle.basis.specs.declared.Edition.{Edition}
+use Rattle.seen.specs.Entries.{until}
+use Rattle.node.specs.declared.Admit.the-variants as answer
+use Rattle.node.specs.Gateway.{Gateway}
+use Rattle.history.specs.History.{State, gatewayOf, Settings, Fresh, Call, admit, answerIn, after, afterAll, reading}
+use Rattle.history.specs.Laws.{Kept, after-keeps, all-keep, history-keeps, Set, after-set, all-set, history-set}
+use Rattle.lifetime.specs.Lifetime.{takenForm, madeNew, NewAt, Twice, othersNew}
+use Rattle.lifetime.specs.Steps.{Step, step-of}
+use Rattle.lifetime.specs.Followed.{Followed, followed-all, followed-new, followed-again}
+
+-- a call that made a form new, as a step at its reading
+new-step : {s : State} {c : Call} {at : ℕ} {form : List ℕ} → Kept s → NewAt s c at form
+    → Step (gatewayOf s) (gatewayOf (after c s)) (at ∷ []) (some form)
+new-step {s} {c} {at} {form} kept n =
+    subst (λ (rs : List ℕ). Step (gatewayOf s) (gatewayOf (after c s)) rs (some form)) (n .read)
+    (subst (Step (gatewayOf s) (gatewayOf (after c s)) (reading c)) (n .made) (step-of s kept c))
+
+-- what has become of it, after some calls more
+module _ {x : Settings} {s : State} (fresh : Fresh x s) (before : List Call) (first : Call) (between : List Call)
+    (at : ℕ) (form : List ℕ) (n : NewAt (afterAll before s) first at form) where
+  abbrev then : State
+  then = afterAll before s
+
+  pub since : Followed form (until at (x .ttl)) (othersNew form between (after first then))
+      (gatewayOf (afterAll between (after first then)))
+  since =
+      let k = history-keeps before fresh in
+      let y = history-set before fresh in
+      let z = after-set first then y in
+      let f = followed-new (z .max-seen ∙ sym (y .max-seen)) (new-step k n) in
+      followed-all between (after first then) (after-keeps first then k) z
+      (subst (λ (ttl : ℕ). Followed form (until at ttl) 0 (gatewayOf (after first then))) (y .ttl) f)
+
+-- ---- of any two readings: the expiry of the first, which stops at 2^64 - 1, is at most the second; or enough others
+pub never-until : {x : Settings} {s : State} → Fresh x s → {before : List Call} {first : Call} {between : List Call}
+    {second : Call} {at later : ℕ} {form : List ℕ} → Twice s before first between second at later form
+    → (until at (x .ttl) ≤ later) ⊎ (x .max-seen ≤ othersNew form between (after first (afterAll before s)))
+never-until {x} {s} fresh {before} {first} {between} {second} {at} {later} {form} t =
+    let then = after first (afterAll before s) in
+    let k = all-keep between then (after-keeps first (afterAll before s) (history-keeps before fresh)) in
+    let y = all-set between then (after-set first (afterAll before s) (history-set before fresh)) in
+    ⊎-elim (λ (h : until at (x .ttl) ≤ later). inl h) (λ h. inr (rw (← y .max-seen) h))
+    (followed-again (since fresh before first between at form (t .once)) (new-step k (t .again)))
+
+until-reached : (at ttl later : ℕ) → later < 2 ^ 64 - 1 → until at ttl ≤ later → at + ttl ≤ later
+unfolding until
+until-reached at ttl later h k = omega arith
+
+-- ---- with a second reading below 2^64 - 1: at least ttl later, in numbers without bound; or enough others
+pub never-twice : {x : Settings} {s : State} → Fresh x s → {before : List Call} {first : Call} {between : List Call}
+    {second : Call} {at later : ℕ} {form : List ℕ} → Twice s before first between second at later form
+    → later < 2 ^ 64 - 1
+    → (at + x .ttl ≤ later) ⊎ (x .max-seen ≤ othersNew form between (after first (afterAll before s)))
+never-twice {x} fresh {at = at} {later} t h =
+    ⊎-elim (λ (e : until at (x .ttl) ≤ later). inl (until-reached at (x .ttl) later h e)) (λ e. inr e)
+    (never-until fresh t)
