@@ -1,6 +1,6 @@
 -- What becomes of an id that was made new: it stays where it is among the ids seen, behind it no more than the others
 -- that were made new since; or its expiry is reached; or as many others as the gateway keeps were made new since.
-use Prim.Native.Nat.{ℕ, _+_, _-_, _≤_, _<_}
+use Prim.Native.Nat.{ℕ, suc, _+_, _-_, _≤_, _<_}
 use mathlib.Core.Path.{_≡_, refl, sym, ap, subst, _∙_}
 use mathlib.Core.Bool.{true, false, cond, or-true}
 use mathlib.Core.List.{List, [], _∷_, _++_, append-assoc, map, map-append}
@@ -60,7 +60,7 @@ module _ (newer : List Entry) (form : List ℕ) (expiry : ℕ) where
       ⊎ Before newer form expiry (newest max es)
   unfolding newest
   before-newest max es b =
-      let l : length es ≡ length (b .older) + (1 + length newer) =
+      let l : length es ≡ length (b .older) + suc (length newer) =
       ap length (b .split) ∙ length-append (b .older) (entry form expiry ∷ newer) in
       either (leb (length es - max) (length (b .older)))
       (λ t.
@@ -88,26 +88,25 @@ pub data Followed (form : List ℕ) (expiry n : ℕ) (g : Gateway) : Type 0 wher
   expired : expiry ≤ g .clock → Followed form expiry n g
   crowded : g .max-seen ≤ n → Followed form expiry n g
 
-module _ {form : List ℕ} {expiry n : ℕ} {g h : Gateway} (same : h .max-seen ≡ g .max-seen) where
-  followed-swept : (at : ℕ) (newer : List Entry) → length newer ≤ n → h .clock ≡ at → h .seen ≡ live at (g .seen)
+-- ---- one call: another form that is made new counts
+module _ (form : List ℕ) (expiry n : ℕ) (g h : Gateway) (same : h .max-seen ≡ g .max-seen) where
+  placed-swept : (at : ℕ) (newer : List Entry) → length newer ≤ n → h .clock ≡ at → h .seen ≡ live at (g .seen)
       → Before newer form expiry (g .seen) → Followed form expiry n h
-  followed-swept at newer l c e b =
+  placed-swept at newer l c e b =
       ⊎-elim (λ (x : expiry ≤ at). expired (rw c x)) (λ x. in-place newer l (rw e x))
       (before-live newer form expiry at (g .seen) b)
 
-  -- one more in the end, of another form
-  followed-entered : (at : ℕ) (x : Entry) (newer : List Entry) → length newer ≤ n
+  -- one more at the end
+  placed-entered : (at : ℕ) (x : Entry) (newer : List Entry) → length newer ≤ n
       → h .seen ≡ newest (g .max-seen) (live at (g .seen) ++ (x ∷ [])) → Before newer form expiry (live at (g .seen))
       → Followed form expiry (n + 1) h
-  followed-entered at x newer l e b =
+  placed-entered at x newer l e b =
       let k = length-append newer (x ∷ []) in
       ⊎-elim (λ (y : g .max-seen ≤ length (newer ++ (x ∷ []))). crowded (rw same (omega arith)))
       (λ y. in-place (newer ++ (x ∷ [])) (omega arith) (rw e y))
       (before-newest (newer ++ (x ∷ [])) form expiry (g .max-seen) (live at (g .seen) ++ (x ∷ []))
       (before-more newer form expiry x (live at (g .seen)) b))
 
--- ---- one call: another form that is made new counts
-module _ {form : List ℕ} {expiry n : ℕ} {g h : Gateway} (same : h .max-seen ≡ g .max-seen) where
   -- the form itself is not made new while it is held
   another : (at : ℕ) (newer : List Entry) (x : List ℕ) → Before newer form expiry (live at (g .seen))
       → holds x (live at (g .seen)) ≡ false → sameBytes x form ≡ false
@@ -121,11 +120,12 @@ module _ {form : List ℕ} {expiry n : ℕ} {g h : Gateway} (same : h .max-seen 
   placed-step : {rs : List ℕ} {made : Option (List ℕ)} (newer : List Entry) → length newer ≤ n
       → Before newer form expiry (g .seen) → Step g h rs made → Followed form expiry (n + isOther form made) h
   placed-step newer l b (stayed e) = in-place newer (omega arith) (rw e b)
-  placed-step newer l b (swept at forward c e) = followed-swept {n = n + 0} same at newer (omega arith) c e b
+  placed-step newer l b (swept at forward c e) =
+      subst (λ (k : ℕ). Followed form expiry k h) (omega arith) (placed-swept at newer l c e b)
   placed-step newer l b (entered at x forward c f e) =
       ⊎-elim (λ (y : expiry ≤ at). expired (rw c y))
       (λ y. rw (another at newer x y f)
-      (followed-entered same at (record { id = x; expiry = until at (g .ttl) }) newer l e y))
+      (placed-entered at (record { id = x; expiry = until at (g .ttl) }) newer l e y))
       (before-live newer form expiry at (g .seen) b)
 
   followed-step : {rs : List ℕ} {made : Option (List ℕ)} → Followed form expiry n g → Step g h rs made
@@ -135,22 +135,24 @@ module _ {form : List ℕ} {expiry n : ℕ} {g h : Gateway} (same : h .max-seen 
   followed-step (crowded e) d = crowded (rw same (omega arith))
 
 -- ---- some calls
-pub followed-all : {x : Settings} {form : List ℕ} {expiry n : ℕ} (calls : List Call) (s : State) → Kept s
+pub followed-all : {x : Settings} (form : List ℕ) (expiry n : ℕ) (calls : List Call) (s : State) → Kept s
     → Set x (gatewayOf s) → Followed form expiry n (gatewayOf s)
     → Followed form expiry (n + othersNew form calls s) (gatewayOf (afterAll calls s))
 unfolding afterAll othersNew
-followed-all {form = form} {expiry} {n} [] s kept set f =
+followed-all form expiry n [] s kept set f =
     subst (λ (k : ℕ). Followed form expiry k (gatewayOf s)) (omega arith) f
-followed-all {form = form} {expiry} {n} (c ∷ cs) s kept set f =
+followed-all form expiry n (c ∷ cs) s kept set f =
     let set2 = after-set c s set in
-    let one = followed-step {form} {expiry} {n} (set2 .max-seen ∙ sym (set .max-seen)) f (step-of s kept c) in
-    let rest = followed-all cs (after c s) (after-keeps c s kept) set2 one in
+    let one = followed-step form expiry n (gatewayOf s) (gatewayOf (after c s)) (set2 .max-seen ∙ sym (set .max-seen)) f
+    (step-of s kept c) in
+    let rest = followed-all form expiry (n + isOther form (madeNew s c)) cs (after c s) (after-keeps c s kept) set2
+    one in
     subst (λ (k : ℕ). Followed form expiry k (gatewayOf (afterAll cs (after c s)))) (omega arith) rest
 
 -- ---- a form that was made new just now
 pub followed-new : {form : List ℕ} {at : ℕ} {g h : Gateway} → h .max-seen ≡ g .max-seen → Step g h (at ∷ []) (some form)
     → Followed form (until at (g .ttl)) 0 h
-followed-new {form} {at} {g} {h} same (entered at form forward c f e) =
+followed-new {g = g} same (entered at form forward c f e) =
     either (eqb (g .max-seen) 0) (λ t. let z = eqb-true (g .max-seen) 0 t in crowded (rw same (omega arith)))
     (λ t.
     let x : Entry = record { id = form; expiry = until at (g .ttl) } in
@@ -164,7 +166,7 @@ followed-new {form} {at} {g} {h} same (entered at form forward c f e) =
 -- ---- where it is made new again, its expiry is reached, or enough others were made new
 pub followed-again : {form : List ℕ} {expiry n at : ℕ} {g h : Gateway} → Followed form expiry n g
     → Step g h (at ∷ []) (some form) → (expiry ≤ at) ⊎ (g .max-seen ≤ n)
-followed-again {form} {expiry} {n} {at} {g} (in-place newer l b) (entered at form forward c f e) =
+followed-again {expiry = expiry} {g = g} (in-place newer l b) (entered at form forward c f e) =
     ⊎-elim (λ (y : expiry ≤ at). inl y)
     (λ y. let k = before-held newer form expiry (live at (g .seen)) y in clash (cc))
     (before-live newer form expiry at (g .seen) b)

@@ -1,5 +1,6 @@
 -- To be believed: Lifetime.
 pub mod Lifetime
+pub mod Taken
 pub mod Back
 pub mod Steps
 pub mod Followed

@@ -39,8 +39,10 @@ module _ {x : Settings} {s : State} (fresh : Fresh x s) (before : List Call) (fi
       let y = history-set before fresh in
       let z = after-set first then y in
       let f = followed-new (z .max-seen ∙ sym (y .max-seen)) (new-step k n) in
-      followed-all between (after first then) (after-keeps first then k) z
-      (subst (λ (ttl : ℕ). Followed form (until at ttl) 0 (gatewayOf (after first then))) (y .ttl) f)
+      subst (λ (others : ℕ). Followed form (until at (x .ttl)) others (gatewayOf (afterAll between (after first then))))
+      (omega arith)
+      (followed-all form (until at (x .ttl)) 0 between (after first then) (after-keeps first then k) z
+      (subst (λ (ttl : ℕ). Followed form (until at ttl) 0 (gatewayOf (after first then))) (y .ttl) f))
 
 -- ---- of any two readings: the expiry of the first, which stops at 2^64 - 1, is at most the second; or enough others
 pub never-until : {x : Settings} {s : State} → Fresh x s → {before : List Call} {first : Call} {between : List Call}
