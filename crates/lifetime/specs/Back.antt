@@ -2,40 +2,26 @@
 -- node and its stores; so a history with any such calls inserted has the same states and the same other answers. It
 -- holds from every state, whatever is lent.
 use Prim.Native.Nat.{ℕ, _<_}
-use mathlib.Core.Path.{_≡_, refl, sym, ap, ap₂, subst, _∙_}
-use mathlib.Core.Bool.{Bool, true, false}
+use mathlib.Core.Path.{_≡_, refl, ap, _∙_}
+use mathlib.Core.Bool.{Bool}
 use mathlib.Core.List.{List, [], _∷_}
+use mathlib.Core.Option.{none}
 use native.Mathlib.Omega.{arith}
 use borrow.Author.Tests.{lt-ltb}
 use Rattle.basis.specs.declared.Edition.{Edition}
-use Rattle.basis.specs.Dialect.{modeOf, spoken}
+use Rattle.basis.specs.Dialect.{modeOf}
 use Rattle.basis.specs.Cases.{clash}
-use Rattle.protobuf.specs.declared.Checked.{Checked}
-use Rattle.protobuf.specs.declared.Checked.the-variants as checked
-use Rattle.protobuf.specs.RefusalLaws.{wire-range}
-use Rattle.protobuf.specs.Walk.{between}
-use Rattle.schema.specs.Accept.{acceptOf}
-use Rattle.ids.specs.declared.MessageAt.{MessageAt}
-use Rattle.ids.specs.declared.MessageAt.the-variants as found
-use Rattle.ids.specs.Ids.{messageAt}
-use Rattle.admission.specs.declared.Admission.{Admission}
-use Rattle.admission.specs.declared.Admission.the-variants as admission
-use Rattle.admission.specs.Admission.{admissionOf}
-use Rattle.admission.specs.AdmissionLaws.{unfit-range}
 use Rattle.node.specs.declared.Lent.{Lent}
 use Rattle.node.specs.declared.Lent.the-variants as lent
-use Rattle.node.specs.declared.Fault.{Fault}
-use Rattle.node.specs.declared.Fault.the-variants as fault
-use Rattle.node.specs.declared.Node.{Node}
-use Rattle.node.specs.declared.Admit.the-variants as answer
 use Rattle.node.specs.declared.Beat.the-variants as beat
-use Rattle.node.specs.Told.{faultTold}
-use Rattle.node.specs.Calls.{no, onLent, lentOf, planFit, planAt, planBody, planned, admitNumber, admitAnswer}
-use Rattle.node.specs.Calls.{beatNumber, beatAnswer}
-use Rattle.history.specs.History.{State, gatewayOf, Call, admit, heartbeat, advertise, ask, serve, explain, after}
-use Rattle.history.specs.History.{afterAll, reading, refusalAt}
+use Rattle.node.specs.Calls.{Plan, no, taken, onLent, lentOf, beatNumber, beatAnswer}
+use Rattle.node.specs.Laws.{plan-takes}
+use Rattle.history.specs.History.{State, gatewayOf, Call, admit, heartbeat, advertise, ask, serve, explain, planIn}
+use Rattle.history.specs.History.{after, afterAll, reading, refusalAt}
 use Rattle.history.specs.Laws.{node-clock, refused-stays}
 use Rattle.history.specs.Answers.{Answer, answerAt, answersOf}
+use Rattle.lifetime.specs.Lifetime.{planForm, takenForm}
+use Rattle.lifetime.specs.Taken.{fault-some, untaken-refused}
 
 -- ---- a call whose reading is before the clock of the gateway that it is lent
 pub record StepsBack (s : State) (c : Call) : Type 0 where
@@ -44,42 +30,28 @@ pub record StepsBack (s : State) (c : Call) : Type 0 where
   pub earlier : at < gatewayOf s .clock
 
 -- ---- it is refused
-fault-some : (why : Fault) → 0 < faultTold why .number
-fault-some fault.BadSetting = omega arith
-fault-some fault.BadStore = omega arith
-fault-some fault.Malformed = omega arith
+-- an admit, since it takes nothing
+back-untaken : (s : State) (ed : Edition) (body : List ℕ) (i : ℕ) (word : Bool) (at : ℕ) (p : Plan)
+    → planIn s ed body i word at ≡ p → at < s .node .clock → planForm (modeOf (s .node .cache .flags)) p ≡ none
+back-untaken s ed body i word at (no r) e h = refl
+back-untaken s ed body i word at (taken m id) e h =
+    let t = plan-takes (s .node) (s .ids) (s .messages) ed body i word at m id .0 e .forward in absurd (omega arith)
 
-module _ (n : Node) (ss cs : List ℕ) (at : ℕ) (back : at < n .clock) where
-  module _ (body : List ℕ) (i : ℕ) (word : Bool) where
-    of-fit : (p : List ℕ) (r : Admission) → 0 < admitNumber (admitAnswer n ss at (planFit n at p r))
-    of-fit p (admission.Unfit why) = omega (arith, unfit-range why .0)
-    of-fit p (admission.Fit a e b f) = rw (lt-ltb at (n .clock) back) (omega arith)
+admit-back : (s : State) (ed : Edition) (body : List ℕ) (i : ℕ) (word : Bool) (at : ℕ) → at < s .node .clock
+    → 0 < refusalAt s (admit ed body i word at)
+unfolding takenForm
+admit-back s ed body i word at h =
+    untaken-refused s ed body i word at (back-untaken s ed body i word at (planIn s ed body i word at) refl h)
 
-    of-at : (r : MessageAt) → 0 < admitNumber (admitAnswer n ss at (planAt n at word body r))
-    of-at (found.Count k) = omega arith
-    of-at (found.At a e) = of-fit (between body a e) (admissionOf (n .cache .flags) (between body a e) word)
+-- a heartbeat
+beat-of : (l : Lent) (clock : ℕ) → 0 < beatNumber (onLent beat.Faulty l (beat.ClockBack clock))
+beat-of (lent.Faulty why) clock = fault-some why
+beat-of lent.Fine clock = omega arith
 
-    of-body : (r : Checked) → 0 < admitNumber (admitAnswer n ss at (planBody n at word body i r))
-    of-body (checked.Refused why) = omega (arith, wire-range (why .why) .0)
-    of-body checked.Fine = of-at (messageAt (modeOf (n .cache .flags)) body i)
-
-    of-lent : (ed : Edition) (l : Lent) → 0 < admitNumber (admitAnswer n ss at
-        (onLent (λ (why : Fault). no (answer.Faulty why)) l
-        (planBody n at word body i (acceptOf (spoken (modeOf (n .cache .flags)) ed) body))))
-    of-lent ed (lent.Faulty why) = fault-some why
-    of-lent ed lent.Fine = of-body (acceptOf (spoken (modeOf (n .cache .flags)) ed) body)
-
-    admit-back : (ed : Edition) → 0 < admitNumber (admitAnswer n ss at (planned n ss cs ed body i word at))
-    unfolding planned
-    admit-back ed = of-lent ed (lentOf n ss cs)
-
-  beat-of : (l : Lent) → 0 < beatNumber (onLent beat.Faulty l (beat.ClockBack (n .clock)))
-  beat-of (lent.Faulty why) = fault-some why
-  beat-of lent.Fine = omega arith
-
-  beat-back : 0 < beatNumber (beatAnswer n ss cs at)
-  unfolding beatAnswer
-  beat-back = rw (lt-ltb at (n .clock) back) (beat-of (lentOf n ss cs))
+beat-back : (s : State) (at : ℕ) → at < s .node .clock → 0 < refusalAt s (heartbeat at)
+unfolding beatAnswer
+beat-back s at h =
+    rw (lt-ltb at (s .node .clock) h) (beat-of (lentOf (s .node) (s .ids) (s .messages)) (s .node .clock))
 
 -- of a call with a reading, by that
 before : (s : State) (now at : ℕ) → now ∷ [] ≡ at ∷ [] → at < gatewayOf s .clock → now < s .node .clock
@@ -87,8 +59,8 @@ before s now at e h = let n = node-clock s in let k : now ≡ at = cc in omega a
 
 refused-at : (s : State) (c : Call) (at : ℕ) → reading c ≡ at ∷ [] → at < gatewayOf s .clock → 0 < refusalAt s c
 refused-at s (admit ed body i word now) at e h =
-    admit-back (s .node) (s .ids) (s .messages) now (before s now at e h) body i word ed
-refused-at s (heartbeat now) at e h = beat-back (s .node) (s .ids) (s .messages) now (before s now at e h)
+    admit-back s ed body i word now (before s now at e h)
+refused-at s (heartbeat now) at e h = beat-back s now (before s now at e h)
 refused-at s (advertise topic windows out) at e h = clash (cc)
 refused-at s (ask ed body out) at e h = clash (cc)
 refused-at s (serve ed body second out) at e h = clash (cc)
@@ -119,7 +91,7 @@ ownCalls (inserted c ∷ is) = ownCalls is
 
 -- each that is inserted steps back where it stands
 pub data InsertedBack : List Item → State → Type 0 where
-  none : {s : State} → InsertedBack [] s
+  no-more : {s : State} → InsertedBack [] s
   own-next : {c : Call} {is : List Item} {s : State} → InsertedBack is (after c s) → InsertedBack (own c ∷ is) s
   back-next : {c : Call} {is : List Item} {s : State} → StepsBack s c → InsertedBack is (after c s)
       → InsertedBack (inserted c ∷ is) s
@@ -170,7 +142,7 @@ unfolding ownStates statesOf ownCalls allCalls afterAll ownAnswers answersOf
 nothing-moved s = record { states = refl; last = refl; answers = refl }
 
 pub back-changes-nothing : {is : List Item} {s : State} → InsertedBack is s → Unmoved is s
-back-changes-nothing {s = s} none = nothing-moved s
+back-changes-nothing {s = s} no-more = nothing-moved s
 back-changes-nothing {is = own c ∷ is} {s} (own-next b) = own-more c is s (back-changes-nothing b)
 back-changes-nothing {is = inserted c ∷ is} {s} (back-next b bs) =
     back-more c is s (back-stays s c b) (back-changes-nothing bs)

@@ -1,6 +1,7 @@
 -- To be believed: Lifetime.
 pub mod Lifetime
 pub mod Taken
+pub mod Fine
 pub mod Back
 pub mod Steps
 pub mod Followed

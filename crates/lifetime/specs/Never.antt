@@ -16,6 +16,7 @@ use Rattle.node.specs.Gateway.{Gateway}
 use Rattle.history.specs.History.{State, gatewayOf, Settings, Fresh, Call, admit, answerIn, after, afterAll, reading}
 use Rattle.history.specs.Laws.{Kept, after-keeps, all-keep, history-keeps, Set, after-set, all-set, history-set}
 use Rattle.lifetime.specs.Lifetime.{takenForm, madeNew, NewAt, Twice, othersNew}
+use Rattle.lifetime.specs.Taken.{taken-answers, made-taken}
 use Rattle.lifetime.specs.Steps.{Step, step-of}
 use Rattle.lifetime.specs.Followed.{Followed, followed-all, followed-new, followed-again}
 
@@ -32,7 +33,7 @@ module _ {x : Settings} {s : State} (fresh : Fresh x s) (before : List Call) (fi
   abbrev then : State
   then = afterAll before s
 
-  pub since : Followed form (until at (x .ttl)) (othersNew form between (after first then))
+  since : Followed form (until at (x .ttl)) (othersNew form between (after first then))
       (gatewayOf (afterAll between (after first then)))
   since =
       let k = history-keeps before fresh in
@@ -67,3 +68,31 @@ pub never-twice : {x : Settings} {s : State} → Fresh x s → {before : List Ca
 never-twice {x} fresh {at = at} {later} t h =
     ⊎-elim (λ (e : until at (x .ttl) ≤ later). inl (until-reached at (x .ttl) later h e)) (λ e. inr e)
     (never-until fresh t)
+
+-- ---- for daily use: an admit that is taken less than ttl after its form was made new, with fewer than max_seen others
+-- made new since, answers duplicate
+module _ {x : Settings} {s : State} (fresh : Fresh x s) (before : List Call) (first : Call) (between : List Call)
+    {at : ℕ} {form : List ℕ} (n : NewAt (afterAll before s) first at form) (ed : Edition) (body : List ℕ) (i : ℕ)
+    (word : Bool) (later : ℕ) where
+  -- the state after the first call, and after those between
+  abbrev since-first : State
+  since-first = after first (afterAll before s)
+
+  abbrev now : State
+  now = afterAll between since-first
+
+  not-new : later < at + x .ttl → later < 2 ^ 64 - 1 → othersNew form between since-first < x .max-seen
+      → madeNew now (admit ed body i word later) ≡ some form → ⊥
+  not-new soon small few m =
+      ⊎-elim (λ (h : at + x .ttl ≤ later). omega arith)
+      (λ (h : x .max-seen ≤ othersNew form between since-first). omega arith)
+      (never-twice fresh (record { once = n; again = record { read = refl; made = m } }) small)
+
+  pub taken-again : takenForm now (admit ed body i word later) ≡ some form
+      → later < at + x .ttl → later < 2 ^ 64 - 1 → othersNew form between since-first < x .max-seen
+      → answerIn now ed body i word later ≡ answer.Duplicate
+  taken-again t soon small few =
+      ⊎-elim
+      (λ (e : answerIn now ed body i word later ≡ answer.New).
+      absurd (not-new soon small few (made-taken now ed body i word later form .1 (t, e))))
+      (λ e. e) (taken-answers now ed body i word later form t)

@@ -96,3 +96,101 @@ pub record Brings (flags : ℕ) (c : Call) (form : List ℕ) : Type 0 where
   pub brings : brought flags c ≡ some message
   pub gives : givesId flags message id ≡ true
   pub marked : form ≡ formOf (modeOf flags) message id
+
+-- an admit answers with one of its two answers where it takes a form
+module _ (s : State) (ed : Edition) (body : List ℕ) (i : ℕ) (word : Bool) (at : ℕ) (form : List ℕ) where
+  of-plan : (p : Plan) → planForm (modeOf (s .node .cache .flags)) p ≡ some form
+      → (admitAnswer (s .node) (s .ids) at p ≡ answer.New) ⊎ (admitAnswer (s .node) (s .ids) at p ≡ answer.Duplicate)
+  of-plan (no r) e = clash (cc)
+  of-plan (taken m id) e =
+      either (heldAt (s .node) (s .ids) at (formOf (modeOf (s .node .cache .flags)) m id)) (λ t. inr (rw t))
+      (λ t. inl (rw t))
+
+  pub taken-answers : takenForm s (admit ed body i word at) ≡ some form
+      → (answerIn s ed body i word at ≡ answer.New) ⊎ (answerIn s ed body i word at ≡ answer.Duplicate)
+  unfolding takenForm
+  taken-answers e = of-plan (planIn s ed body i word at) e
+
+  -- one that is made new is taken, and the answer is new; and the other way round
+  where-new : (r : Admit) (o : Option (List ℕ)) → whereNew r o ≡ some form → (o ≡ some form) × (r ≡ answer.New)
+  where-new answer.New o e = (e, refl)
+  where-new answer.Duplicate o e = clash (cc)
+  where-new (answer.Faulty why) o e = clash (cc)
+  where-new (answer.Refused why) o e = clash (cc)
+  where-new (answer.NoMessage n) o e = clash (cc)
+  where-new (answer.Unfit why) o e = clash (cc)
+  where-new (answer.ClockBack clock) o e = clash (cc)
+
+  pub made-taken : (madeNew s (admit ed body i word at) ≡ some form)
+      ↔ ((takenForm s (admit ed body i word at) ≡ some form) × (answerIn s ed body i word at ≡ answer.New))
+  unfolding madeNew
+  made-taken = (
+    where-new (answerIn s ed body i word at) (takenForm s (admit ed body i word at)),
+    λ p. rw (p .1) (p .0),
+  )
+
+-- ---- in a history from fresh
+module _ {x : Settings} {start : State} (fresh : Fresh x start) (calls : List Call) (ed : Edition) (body : List ℕ)
+    (i : ℕ) (word : Bool) (at : ℕ) where
+  abbrev s : State
+  s = afterAll calls start
+
+  abbrev this : Call
+  this = admit ed body i word at
+
+  same-flags : gatewayOf s .flags ≡ x .flags
+  same-flags = history-flags calls fresh
+
+  node-flags : s .node .cache .flags ≡ x .flags
+  unfolding gatewayIn
+  node-flags = same-flags
+
+  of-taken : (form : List ℕ) (p : Plan) → planIn s ed body i word at ≡ p
+      → planForm (modeOf (s .node .cache .flags)) p ≡ some form
+      → Brings (x .flags) this form × (gatewayOf s .clock ≤ at)
+  of-taken form (no r) e h = clash (cc)
+  of-taken form (taken m id) e h =
+      let t = plan-takes (s .node) (s .ids) (s .messages) ed body i word at m id .0 e in
+      let f = node-flags in
+      let v = brings-exactly (x .flags) m ed body i word at .1
+      (rw (← f) (takes-vouched t), rw (← f) (t .accepted),
+      record { start = t .start; next = t .next; found = rw (← f) (t .there); bytes = sym (t .bytes) }) in
+      (record {
+        message = m;
+        id = id;
+        brings = brings-that (x .flags) m this .0 v;
+        gives = rw (← f) (takes-own t);
+        marked = rw (← f) (cc);
+      }, rw (node-clock s) (t .forward))
+
+  -- it takes the form of the message that it brings, where the clock does not go back; and no other
+  pub taken-exactly : (form : List ℕ) → (takenForm s this ≡ some form)
+      ↔ (Brings (x .flags) this form × (gatewayOf s .clock ≤ at))
+  unfolding takenForm
+  taken-exactly form = (
+    of-taken form (planIn s ed body i word at) refl,
+    λ p.
+        let b = p .0 in
+        let k = history-keeps calls fresh in
+        let e = brought-plan s (x .flags) same-flags ed body i word at (b .message) (b .id) (b .brings) (b .gives)
+        (k .fine) (subst (λ (c : ℕ). c ≤ at) (node-clock s) (p .1)) in
+        rw (e, node-flags) (ap some (sym (b .marked))),
+  )
+
+  -- one that is new was not refused, so the clock did not go back
+  new-forward : (o : Option (List ℕ)) → takenForm s this ≡ o → answerIn s ed body i word at ≡ answer.New
+      → gatewayOf s .clock ≤ at
+  new-forward none e h =
+      let r = untaken-refused s ed body i word at e in
+      let z : admitNumber (answerIn s ed body i word at) ≡ 0 = ap admitNumber h in absurd (omega arith)
+  new-forward (some form) e h = taken-exactly form .0 e .1
+
+  -- and makes it new, where it answers new
+  pub made-exactly : (form : List ℕ) → (madeNew s this ≡ some form)
+      ↔ (Brings (x .flags) this form × (answerIn s ed body i word at ≡ answer.New))
+  made-exactly form = (
+    λ h. let t = made-taken s ed body i word at form .0 h in (taken-exactly form .0 (t .0) .0, t .1),
+    λ p.
+        let c = new-forward (takenForm s this) refl (p .1) in
+        made-taken s ed body i word at form .1 (taken-exactly form .1 (p .0, c), p .1),
+  )
