@@ -6,3 +6,4 @@ pub mod Back
 pub mod Steps
 pub mod Followed
 pub mod Never
+pub mod Enough

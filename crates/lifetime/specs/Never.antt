@@ -17,15 +17,8 @@ use Rattle.history.specs.History.{State, gatewayOf, Settings, Fresh, Call, admi
 use Rattle.history.specs.Laws.{Kept, after-keeps, all-keep, history-keeps, Set, after-set, all-set, history-set}
 use Rattle.lifetime.specs.Lifetime.{takenForm, madeNew, NewAt, Twice, othersNew}
 use Rattle.lifetime.specs.Taken.{taken-answers, made-taken}
-use Rattle.lifetime.specs.Steps.{Step, step-of}
+use Rattle.lifetime.specs.Steps.{new-step}
 use Rattle.lifetime.specs.Followed.{Followed, followed-all, followed-new, followed-again}
-
--- a call that made a form new, as a step at its reading
-new-step : {s : State} {c : Call} {at : ℕ} {form : List ℕ} → Kept s → NewAt s c at form
-    → Step (gatewayOf s) (gatewayOf (after c s)) (at ∷ []) (some form)
-new-step {s} {c} {at} {form} kept n =
-    subst (λ (rs : List ℕ). Step (gatewayOf s) (gatewayOf (after c s)) rs (some form)) (n .read)
-    (subst (Step (gatewayOf s) (gatewayOf (after c s)) (reading c)) (n .made) (step-of s kept c))
 
 -- what has become of it, after some calls more
 module _ {x : Settings} {s : State} (fresh : Fresh x s) (before : List Call) (first : Call) (between : List Call)

@@ -25,7 +25,7 @@ use Rattle.history.specs.History.{State, gatewayOf, Settings, Fresh, Call, admi
 use Rattle.history.specs.History.{explain, planIn, answerIn, after, afterAll, reading}
 use Rattle.history.specs.Laws.{node-clock, startedBy, Kept, after-keeps, fresh-starts, admit-none, admit-leaves}
 use Rattle.history.specs.Laws.{beat-leaves, refused-stays}
-use Rattle.lifetime.specs.Lifetime.{planForm, takenForm, whereNew, madeNew}
+use Rattle.lifetime.specs.Lifetime.{planForm, takenForm, whereNew, madeNew, NewAt}
 use Rattle.lifetime.specs.Back.{back-stays}
 
 -- ---- a step from one gateway to the next, at the readings of a call, by the form that it made new
@@ -139,3 +139,16 @@ clock-rises [] s kept = omega arith
 clock-rises (c ∷ cs) s kept =
     let a = step-clock (step-of s kept c) in
     let b = clock-rises cs (after c s) (after-keeps c s kept) in omega arith
+
+-- ---- a call that made a form new, at its reading: not before the clock, which it sets
+pub new-step : {s : State} {c : Call} {at : ℕ} {form : List ℕ} → Kept s → NewAt s c at form
+    → Step (gatewayOf s) (gatewayOf (after c s)) (at ∷ []) (some form)
+new-step {s} {c} {at} {form} kept n =
+    subst (λ (rs : List ℕ). Step (gatewayOf s) (gatewayOf (after c s)) rs (some form)) (n .read)
+    (subst (Step (gatewayOf s) (gatewayOf (after c s)) (reading c)) (n .made) (step-of s kept c))
+
+pub before-clock : {g h : Gateway} {at : ℕ} {form : List ℕ} → Step g h (at ∷ []) (some form) → g .clock ≤ at
+before-clock (entered at form forward c f e) = forward
+
+pub at-clock : {g h : Gateway} {at : ℕ} {form : List ℕ} → Step g h (at ∷ []) (some form) → h .clock ≡ at
+at-clock (entered at form forward c f e) = c
