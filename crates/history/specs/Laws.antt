@@ -98,11 +98,11 @@ started-flags : (x : Settings) → startedBy x .flags ≡ x .flags
 unfolding started
 started-flags x = refl
 
-after-admit-clock : (at : ℕ) (m id : List ℕ) (g : Gateway) → afterAdmit at m id g .clock ≡ at
+pub after-admit-clock : (at : ℕ) (m id : List ℕ) (g : Gateway) → afterAdmit at m id g .clock ≡ at
 unfolding afterAdmit
 after-admit-clock at m id g = refl
 
-after-beat-clock : (at : ℕ) (g : Gateway) → afterBeat at g .clock ≡ at
+pub after-beat-clock : (at : ℕ) (g : Gateway) → afterBeat at g .clock ≡ at
 unfolding afterBeat
 after-beat-clock at g = refl
 

@@ -7,3 +7,4 @@ pub mod Steps
 pub mod Followed
 pub mod Never
 pub mod Enough
+pub mod Scripted

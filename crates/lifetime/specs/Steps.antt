@@ -91,7 +91,7 @@ module _ (s : State) (kept : Kept s) where
       says : answerIn s ed body i word at ≡ cond (isNew at m id (gatewayOf s)) answer.New answer.Duplicate
       says = admit-says (s .node) (s .ids) (s .messages) ed body i word at m id (kept .typed) e
 
-      made-is : madeNew s this ≡ cond (isNew at m id (gatewayOf s)) (some (formOf (modeOf (gatewayOf s .flags)) m id))
+      pub made-is : madeNew s this ≡ cond (isNew at m id (gatewayOf s)) (some (formOf (modeOf (gatewayOf s .flags)) m id))
           none
       unfolding madeNew takenForm gatewayIn
       made-is = rw (says, e) (either (isNew at m id (gatewayOf s)) (λ t. rw t) (λ t. rw t))
