@@ -8,3 +8,4 @@ pub mod Followed
 pub mod Never
 pub mod Enough
 pub mod Scripted
+pub mod Tight

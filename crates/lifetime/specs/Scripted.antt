@@ -164,11 +164,14 @@ state-after before a between s =
     ap (λ (l : List Call). afterAll l s) (calls-append before (a ∷ between))
     ∙ after-append (callsOf before) (callsOf (a ∷ between)) s
 
+again-written : {flags : ℕ} (before : List Act) (a : Act) (between : List Act) (b : Act) (rest : List Act)
+    → Written flags 0 (before ++ (a ∷ (between ++ (b ∷ rest))))
+    → Written flags 0 ((before ++ (a ∷ between)) ++ (b ∷ rest))
+again-written {flags} before a between b rest w =
+    subst (Written flags 0) (sym (append-assoc before (a ∷ between) (b ∷ rest))) w
+
 module _ {x : Settings} {s : State} (fresh : Fresh x s) (before : List Act) (a : Act) (between : List Act)
     (b : Act) (rest : List Act) (w : Written (x .flags) 0 (before ++ (a ∷ (between ++ (b ∷ rest))))) (form : List ℕ) where
-  again-written : Written (x .flags) 0 ((before ++ (a ∷ between)) ++ (b ∷ rest))
-  again-written = subst (Written (x .flags) 0) (sym (append-assoc before (a ∷ between) (b ∷ rest))) w
-
   pub script-twice : (at later : ℕ) → reading (callOf a) ≡ at ∷ [] → reading (callOf b) ≡ later ∷ []
       → formBy a (gatewayAfter before (startedBy x)) ≡ some form
       → formBy b (gatewayAfter (before ++ (a ∷ between)) (startedBy x)) ≡ some form
@@ -179,7 +182,8 @@ module _ {x : Settings} {s : State} (fresh : Fresh x s) (before : List Act) (a :
         again = record {
             read = q;
             made = ap (λ (t : State). madeNew t (callOf b)) (sym (state-after before a between s))
-                ∙ script-makes fresh (before ++ (a ∷ between)) b rest again-written ∙ k;
+                ∙ script-makes fresh (before ++ (a ∷ between)) b rest
+                (again-written before a between b rest w) ∙ k;
           };
       }
 
@@ -191,3 +195,14 @@ module _ {x : Settings} {s : State} (fresh : Fresh x s) (before : List Act) (a :
       ap (othersNew form (callsOf between)) (sym (state-after before a [] s))
       ∙ script-others fresh (before ++ (a ∷ [])) form between (b ∷ rest)
       (subst (Written (x .flags) 0) (sym (append-assoc before (a ∷ []) (between ++ (b ∷ rest)))) w)
+
+-- what the last of them answers
+pub script-again : {x : Settings} {s : State} → Fresh x s → (before : List Act) (a : Act) (between : List Act)
+    (ed : Edition) (body m id : List ℕ) (later : ℕ) (rest : List Act)
+    → Written (x .flags) 0 (before ++ (a ∷ (between ++ (gets ed body m id later ∷ rest))))
+    → answerIn (afterAll (callsOf between) (after (callOf a) (afterAll (callsOf before) s))) ed body 0 true later
+    ≡ cond (isNew later m id (gatewayAfter (before ++ (a ∷ between)) (startedBy x))) answer.New answer.Duplicate
+script-again {x} {s} fresh before a between ed body m id later rest w =
+    ap (λ (t : State). answerIn t ed body 0 true later) (sym (state-after before a between s))
+    ∙ script-answers fresh (before ++ (a ∷ between)) ed body m id later rest
+    (again-written before a between (gets ed body m id later) rest w)
