@@ -9,3 +9,4 @@ pub mod Never
 pub mod Enough
 pub mod Scripted
 pub mod Tight
+pub mod Needed
