@@ -1,11 +1,11 @@
 -- What becomes of an id that was made new: it stays where it is among the ids seen, behind it no more than the others
 -- that were made new since; or its expiry is reached; or as many others as the gateway keeps were made new since.
-use Prim.Native.Nat.{ℕ, suc, _+_, _-_, _≤_, _<_}
-use mathlib.Core.Path.{_≡_, refl, sym, ap, subst, _∙_}
-use mathlib.Core.Bool.{true, false, cond, or-true}
-use mathlib.Core.List.{List, [], _∷_, _++_, append-assoc, map, map-append}
+use Prim.Native.Nat.{ℕ, suc, _+_, _-_, _≤_}
+use mathlib.Core.Path.{_≡_, sym, ap, subst, _∙_}
+use mathlib.Core.Bool.{true, false, or-true}
+use mathlib.Core.List.{List, [], _∷_, _++_, append-assoc}
 use mathlib.Core.Logic.{_⊎_, inl, inr, ⊎-elim}
-use mathlib.Core.Option.{Option, none, some}
+use mathlib.Core.Option.{Option, some}
 use native.Mathlib.Omega.{arith}
 use lib.ListN.{length, drop, length-append}
 use lib.Seq.{drop-append-le}
@@ -15,8 +15,8 @@ use Rattle.basis.specs.Cases.{either, clash}
 use Rattle.rows.specs.Rows.{newest}
 use Rattle.rows.specs.RowsLaws.{newest-more}
 use Rattle.rows.specs.Ids.{sameBytes, among}
-use Rattle.rows.specs.IdsLaws.{same-self, same-equal, among-append}
-use Rattle.seen.specs.Entries.{Entry, idsOf, holds, until, live}
+use Rattle.rows.specs.IdsLaws.{same-self, same-equal}
+use Rattle.seen.specs.Entries.{Entry, holds, until, live}
 use Rattle.node.specs.Gateway.{Gateway}
 use Rattle.history.specs.History.{State, gatewayOf, Settings, Call, after, afterAll}
 use Rattle.history.specs.Laws.{Kept, after-keeps, Set, after-set}

@@ -1,7 +1,7 @@
 -- No part of the theorem can be had for less: four sentences that ask less or say more, each false by a computed
 -- history; and one answer more within a stretch of ttl is too many.
-use Prim.Native.Nat.{ℕ, suc, _+_, _-_, _^_, _≤_, _<_}
-use mathlib.Core.Path.{_≡_, refl, sym, ap, subst, _∙_}
+use Prim.Native.Nat.{ℕ, _+_, _-_, _^_, _≤_, _<_}
+use mathlib.Core.Path.{_≡_, refl, ap, _∙_}
 use mathlib.Core.List.{List, [], _∷_, _++_}
 use mathlib.Core.Logic.{_⊎_, ⊎-elim}
 use mathlib.Core.Option.{Option, none, some}
@@ -13,7 +13,7 @@ use Rattle.history.specs.Script.{callOf, callsOf}
 use Rattle.history.specs.Samples.{start}
 use Rattle.lifetime.specs.Lifetime.{madeNew, Twice, othersNew, isWithin, isMade, newWithin}
 use Rattle.lifetime.specs.Never.{never-twice}
-use Rattle.lifetime.specs.Tight.{signedAt, firstForm, lasting, usual, two-others, one-other, exactly-ttl, exactly-max}
+use Rattle.lifetime.specs.Tight.{signedAt, firstForm, usual, two-others, one-other, exactly-ttl, exactly-max}
 use Rattle.lifetime.specs.Tight.{one-short, last-reading}
 
 -- ---- the sentence, with its parts left open: what it asks of the second reading, what it says of the two readings and

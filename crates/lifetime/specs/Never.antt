@@ -3,18 +3,17 @@
 -- admits made one seen form new, the second reading is at least ttl after the first, or at least max_seen calls between
 -- them made another form new.
 use Prim.Native.Nat.{ℕ, _+_, _-_, _^_, _≤_, _<_}
-use mathlib.Core.Path.{_≡_, refl, sym, ap, subst, _∙_}
+use mathlib.Core.Path.{_≡_, refl, sym, subst, _∙_}
 use mathlib.Core.Bool.{Bool}
-use mathlib.Core.List.{List, [], _∷_}
+use mathlib.Core.List.{List}
 use mathlib.Core.Logic.{_⊎_, inl, inr, ⊎-elim}
-use mathlib.Core.Option.{Option, some}
+use mathlib.Core.Option.{some}
 use native.Mathlib.Omega.{arith}
 use Rattle.basis.specs.declared.Edition.{Edition}
 use Rattle.seen.specs.Entries.{until}
 use Rattle.node.specs.declared.Admit.the-variants as answer
-use Rattle.node.specs.Gateway.{Gateway}
-use Rattle.history.specs.History.{State, gatewayOf, Settings, Fresh, Call, admit, answerIn, after, afterAll, reading}
-use Rattle.history.specs.Laws.{Kept, after-keeps, all-keep, history-keeps, Set, after-set, all-set, history-set}
+use Rattle.history.specs.History.{State, gatewayOf, Settings, Fresh, Call, admit, answerIn, after, afterAll}
+use Rattle.history.specs.Laws.{after-keeps, all-keep, history-keeps, after-set, all-set, history-set}
 use Rattle.lifetime.specs.Lifetime.{takenForm, madeNew, NewAt, Twice, othersNew}
 use Rattle.lifetime.specs.Taken.{taken-answers, made-taken}
 use Rattle.lifetime.specs.Steps.{new-step}

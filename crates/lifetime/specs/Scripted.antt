@@ -2,26 +2,24 @@
 -- gateways, without their stores.
 use Prim.Native.Nat.{ℕ, _+_, _≤_}
 use mathlib.Core.Path.{_≡_, refl, sym, ap, ap₂, subst, _∙_}
-use mathlib.Core.Bool.{true, false, cond}
+use mathlib.Core.Bool.{true, cond}
 use mathlib.Core.List.{List, [], _∷_, _++_, append-assoc}
 use mathlib.Core.Option.{Option, none, some}
 use Rattle.basis.specs.declared.Edition.{Edition}
 use Rattle.basis.specs.Dialect.{modeOf}
-use Rattle.basis.specs.Cases.{either}
 use Rattle.node.specs.declared.Admit.the-variants as answer
 use Rattle.node.specs.Gateway.{Gateway, formOf, isNew, afterAdmit, afterBeat}
-use Rattle.node.specs.State.{gatewayIn}
 use Rattle.node.specs.Calls.{taken}
 use Rattle.node.specs.Laws.{admit-says}
-use Rattle.history.specs.History.{State, gatewayOf, Settings, Fresh, Call, admit, planIn, answerIn, after, afterAll}
+use Rattle.history.specs.History.{State, gatewayOf, Settings, Fresh, Call, planIn, answerIn, after, afterAll}
 use Rattle.history.specs.History.{reading}
-use Rattle.history.specs.Laws.{node-clock, startedBy, Kept, after-keeps, all-keep, history-keeps, fresh-keeps}
+use Rattle.history.specs.Laws.{node-clock, startedBy, Kept, after-keeps, history-keeps, fresh-keeps}
 use Rattle.history.specs.Laws.{fresh-starts, fresh-flags, fresh-clock, after-flags, history-flags, carried-brought}
 use Rattle.history.specs.Laws.{after-append, brought-plan, after-admit-clock, after-beat-clock}
 use Rattle.history.specs.Script.{Carries, Act, gets, beats, asks, callOf, callsOf, gatewayBy, gatewayAfter, Written}
 use Rattle.history.specs.Script.{nothing, got, beaten, asked}
 use Rattle.history.specs.ScriptLaws.{acted}
-use Rattle.lifetime.specs.Lifetime.{takenForm, madeNew, NewAt, Twice, isOther, othersNew}
+use Rattle.lifetime.specs.Lifetime.{madeNew, Twice, isOther, othersNew}
 use Rattle.lifetime.specs.Steps.{made-is}
 
 -- ---- the form that a call makes new, at a gateway
@@ -180,11 +178,11 @@ module _ {x : Settings} {s : State} (fresh : Fresh x s) (before : List Act) (a :
       record {
         once = record { read = p; made = script-makes fresh before a (between ++ (b ∷ rest)) w ∙ m };
         again = record {
-            read = q;
-            made = ap (λ (t : State). madeNew t (callOf b)) (sym (state-after before a between s))
-                ∙ script-makes fresh (before ++ (a ∷ between)) b rest
-                (again-written before a between b rest w) ∙ k;
-          };
+          read = q;
+          made = ap (λ (t : State). madeNew t (callOf b)) (sym (state-after before a between s))
+              ∙ script-makes fresh (before ++ (a ∷ between)) b rest
+              (again-written before a between b rest w) ∙ k;
+        };
       }
 
   -- and how many others are made new between them

@@ -1,7 +1,7 @@
 -- What one call does to the ids that a gateway has seen: nothing; a clean-up at its reading; or a clean-up, and then an
 -- id more at the end, which is the form that it made new. The clock does not fall.
-use Prim.Native.Nat.{ℕ, _≤_, _<_}
-use mathlib.Core.Path.{_≡_, refl, sym, ap, subst, _∙_}
+use Prim.Native.Nat.{ℕ, _≤_}
+use mathlib.Core.Path.{_≡_, refl, sym, ap, subst}
 use mathlib.Core.Bool.{Bool, true, false, cond, not}
 use mathlib.Core.List.{List, [], _∷_, _++_}
 use mathlib.Core.Option.{Option, none, some}
@@ -19,13 +19,13 @@ use Rattle.node.specs.declared.Admit.the-variants as answer
 use Rattle.node.specs.declared.Beat.the-variants as beat
 use Rattle.node.specs.Gateway.{Gateway, formOf, isNew, afterAdmit, afterBeat}
 use Rattle.node.specs.State.{gatewayIn}
-use Rattle.node.specs.Calls.{Plan, no, taken, beatNumber, beatAnswer}
+use Rattle.node.specs.Calls.{Plan, no, taken}
 use Rattle.node.specs.Laws.{plan-takes, admit-says}
-use Rattle.history.specs.History.{State, gatewayOf, Settings, Fresh, Call, admit, heartbeat, advertise, ask, serve}
+use Rattle.history.specs.History.{State, gatewayOf, Call, admit, heartbeat, advertise, ask, serve}
 use Rattle.history.specs.History.{explain, planIn, answerIn, after, afterAll, reading}
-use Rattle.history.specs.Laws.{node-clock, startedBy, Kept, after-keeps, fresh-starts, admit-none, admit-leaves}
-use Rattle.history.specs.Laws.{beat-leaves, refused-stays}
-use Rattle.lifetime.specs.Lifetime.{planForm, takenForm, whereNew, madeNew, NewAt}
+use Rattle.history.specs.Laws.{node-clock, Kept, after-keeps, admit-none, admit-leaves}
+use Rattle.history.specs.Laws.{beat-leaves}
+use Rattle.lifetime.specs.Lifetime.{takenForm, whereNew, madeNew, NewAt}
 use Rattle.lifetime.specs.Back.{back-stays}
 
 -- ---- a step from one gateway to the next, at the readings of a call, by the form that it made new
@@ -111,7 +111,7 @@ module _ (s : State) (kept : Kept s) where
   -- a heartbeat
   heartbeat-step : (at : ℕ) → Step (gatewayOf s) (gatewayOf (after (heartbeat at) s)) (at ∷ []) none
   heartbeat-step at =
-      either (ltb at (s .node .clock)) 
+      either (ltb at (s .node .clock))
       (λ t. stayed (ap gatewayOf (back-stays s (heartbeat at)
       (record { at = at; read = refl; earlier = rw (node-clock s) (ltb-true at (s .node .clock) t) }))))
       (λ t.

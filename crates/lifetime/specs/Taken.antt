@@ -2,9 +2,9 @@
 -- brings exactly where that passes admission and the clock does not go back; it makes it new exactly where it answers
 -- new as well; and where it takes none, it is refused.
 use Prim.Native.Nat.{ℕ, _≤_, _<_}
-use mathlib.Core.Path.{_≡_, refl, sym, ap, subst, _∙_}
-use mathlib.Core.Bool.{Bool, true, false}
-use mathlib.Core.List.{List, []}
+use mathlib.Core.Path.{_≡_, refl, sym, ap, subst}
+use mathlib.Core.Bool.{Bool, true}
+use mathlib.Core.List.{List}
 use mathlib.Core.Logic.{_↔_, _⊎_, inl, inr}
 use mathlib.Core.Option.{Option, none, some}
 use native.Mathlib.Omega.{arith}
@@ -152,16 +152,20 @@ module _ {x : Settings} {start : State} (fresh : Fresh x start) (calls : List Ca
   of-taken form (taken m id) e h =
       let t = plan-takes (s .node) (s .ids) (s .messages) ed body i word at m id .0 e in
       let f = node-flags in
-      let v = brings-exactly (x .flags) m ed body i word at .1
-      (rw (← f) (takes-vouched t), rw (← f) (t .accepted),
-      record { start = t .start; next = t .next; found = rw (← f) (t .there); bytes = sym (t .bytes) }) in
-      (record {
-        message = m;
-        id = id;
-        brings = brings-that (x .flags) m this .0 v;
-        gives = rw (← f) (takes-own t);
-        marked = rw (← f) (cc);
-      }, rw (node-clock s) (t .forward))
+      let v = brings-exactly (x .flags) m ed body i word at .1 (
+        rw (← f) (takes-vouched t),
+        rw (← f) (t .accepted),
+        record { start = t .start; next = t .next; found = rw (← f) (t .there); bytes = sym (t .bytes) },
+      ) in (
+        record {
+          message = m;
+          id = id;
+          brings = brings-that (x .flags) m this .0 v;
+          gives = rw (← f) (takes-own t);
+          marked = rw (← f) (cc);
+        },
+        rw (node-clock s) (t .forward),
+      )
 
   -- it takes the form of the message that it brings, where the clock does not go back; and no other
   pub taken-exactly : (form : List ℕ) → (takenForm s this ≡ some form)

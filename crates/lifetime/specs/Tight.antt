@@ -2,9 +2,9 @@
 -- exactly max_seen others; one unit earlier and with one other fewer it is a duplicate. With the settings at their
 -- ends, too: a ttl of 0, a max_seen of 0 and of 1. At a second reading of 2^64 - 1, where expiries stop, it is new again
 -- within ttl. The other form of the same id, without a signature, counts as an other.
-use Prim.Native.Nat.{ℕ, _+_, _-_, _^_, _≤_, _<_}
-use mathlib.Core.Path.{_≡_, refl, sym, ap, _∙_}
-use mathlib.Core.Bool.{true, false, cond}
+use Prim.Native.Nat.{ℕ, _+_, _-_, _^_}
+use mathlib.Core.Path.{_≡_, refl, _∙_}
+use mathlib.Core.Bool.{true, false}
 use mathlib.Core.List.{List, [], _∷_, _++_}
 use mathlib.Core.Option.{some}
 use native.Mathlib.Omega.{arith}
@@ -22,7 +22,7 @@ use Rattle.seen.specs.Entries.{holds, until, inserted, live}
 use Rattle.mcache.specs.Messages.{held, put}
 use Rattle.mcache.specs.State.{legal}
 use Rattle.node.specs.declared.Admit.the-variants as answer
-use Rattle.node.specs.Gateway.{Gateway, started, marked, isNew, afterAdmit}
+use Rattle.node.specs.Gateway.{started, marked, isNew, afterAdmit}
 use Rattle.node.specs.State.{legalSettings}
 use Rattle.history.specs.History.{Settings, Fresh, after, afterAll, answerIn, reading}
 use Rattle.history.specs.Laws.{startedBy}
