@@ -345,6 +345,14 @@ class Playing(Case):
         told = [answer for answer in self.answers(out.decode()).values() if not answer.endswith(" bytes")]
         self.assertEqual(told, ["ok", no_peer, no_peer, other, no_key, no_key, other, "refused 27: the host did not verify the signature", "new", "dup", other, "new"])
 
+    def test_lifetime(self):
+        path = os.path.join(TOP, "examples", "lifetime.trace")
+        status, out, err = self.call("--program", self.model, path)
+        self.assertEqual((status, err), (0, ""))
+        back = "refused 31: the reading is before the node's clock"
+        told = [answer for answer in self.answers(out.decode()).values() if not answer.endswith(" bytes")]
+        self.assertEqual(told, ["ok", "new", "dup", back, "new", "new", "dup", "new", "new", back])
+
     def test_why(self):
         """The example, each answer beside what its text says."""
         path = os.path.join(TOP, "examples", "why.trace")
