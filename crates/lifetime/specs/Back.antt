@@ -76,36 +76,36 @@ back-stays s c b = let r = back-refused s c b in refused-stays c s (λ z. omega 
 -- ---- calls of which some are inserted
 pub data Item : Type 0 where
   own : Call → Item
-  inserted : Call → Item
+  extra : Call → Item
 
 -- all of them, and those that were there before
 unfoldable pub allCalls : List Item → List Call
 allCalls [] = []
 allCalls (own c ∷ is) = c ∷ allCalls is
-allCalls (inserted c ∷ is) = c ∷ allCalls is
+allCalls (extra c ∷ is) = c ∷ allCalls is
 
 unfoldable pub ownCalls : List Item → List Call
 ownCalls [] = []
 ownCalls (own c ∷ is) = c ∷ ownCalls is
-ownCalls (inserted c ∷ is) = ownCalls is
+ownCalls (extra c ∷ is) = ownCalls is
 
 -- each that is inserted steps back where it stands
 pub data InsertedBack : List Item → State → Type 0 where
   no-more : {s : State} → InsertedBack [] s
   own-next : {c : Call} {is : List Item} {s : State} → InsertedBack is (after c s) → InsertedBack (own c ∷ is) s
   back-next : {c : Call} {is : List Item} {s : State} → StepsBack s c → InsertedBack is (after c s)
-      → InsertedBack (inserted c ∷ is) s
+      → InsertedBack (extra c ∷ is) s
 
 -- what the calls that were there before answer among all of them, and the states that they leave there
 unfoldable pub ownAnswers : List Item → State → List Answer
 ownAnswers [] s = []
 ownAnswers (own c ∷ is) s = answerAt s c ∷ ownAnswers is (after c s)
-ownAnswers (inserted c ∷ is) s = ownAnswers is (after c s)
+ownAnswers (extra c ∷ is) s = ownAnswers is (after c s)
 
 unfoldable pub ownStates : List Item → State → List State
 ownStates [] s = []
 ownStates (own c ∷ is) s = after c s ∷ ownStates is (after c s)
-ownStates (inserted c ∷ is) s = ownStates is (after c s)
+ownStates (extra c ∷ is) s = ownStates is (after c s)
 
 -- the states that calls leave, each in its turn
 unfoldable pub statesOf : List Call → State → List State
@@ -128,7 +128,7 @@ own-more c is s u =
     }
 
 back-more : (c : Call) (is : List Item) (s : State) → after c s ≡ s → Unmoved is (after c s)
-    → Unmoved (inserted c ∷ is) s
+    → Unmoved (extra c ∷ is) s
 unfolding ownStates statesOf ownCalls allCalls afterAll ownAnswers answersOf
 back-more c is s e u =
     record {
@@ -144,5 +144,5 @@ nothing-moved s = record { states = refl; last = refl; answers = refl }
 pub back-changes-nothing : {is : List Item} {s : State} → InsertedBack is s → Unmoved is s
 back-changes-nothing {s = s} no-more = nothing-moved s
 back-changes-nothing {is = own c ∷ is} {s} (own-next b) = own-more c is s (back-changes-nothing b)
-back-changes-nothing {is = inserted c ∷ is} {s} (back-next b bs) =
+back-changes-nothing {is = extra c ∷ is} {s} (back-next b bs) =
     back-more c is s (back-stays s c b) (back-changes-nothing bs)

@@ -3,7 +3,7 @@
 -- ends, too: a ttl of 0, a max_seen of 0 and of 1. At a second reading of 2^64 - 1, where expiries stop, it is new again
 -- within ttl. The other form of the same id, without a signature, counts as an other.
 use Prim.Native.Nat.{ℕ, _+_, _-_, _^_}
-use mathlib.Core.Path.{_≡_, refl, _∙_}
+use mathlib.Core.Path.{_≡_, refl, sym, ap, subst, _∙_}
 use mathlib.Core.Bool.{true, false}
 use mathlib.Core.List.{List, [], _∷_, _++_}
 use mathlib.Core.Option.{some}
@@ -22,14 +22,17 @@ use Rattle.seen.specs.Entries.{holds, until, inserted, live}
 use Rattle.mcache.specs.Messages.{held, put}
 use Rattle.mcache.specs.State.{legal}
 use Rattle.node.specs.declared.Admit.the-variants as answer
-use Rattle.node.specs.Gateway.{started, marked, isNew, afterAdmit}
+use Rattle.node.specs.Gateway.{Gateway, started, marked, isNew, afterAdmit}
 use Rattle.node.specs.State.{legalSettings}
-use Rattle.history.specs.History.{Settings, Fresh, after, afterAll, answerIn, reading}
-use Rattle.history.specs.Laws.{startedBy}
+use Rattle.history.specs.History.{State, gatewayOf, Settings, Fresh, heartbeat, after, afterAll, answerIn, reading}
+use Rattle.history.specs.Laws.{startedBy, after-admit-clock}
 use Rattle.history.specs.Script.{Act, gets, callOf, callsOf, gatewayBy, gatewayAfter, Written, nothing, got}
+use Rattle.history.specs.ScriptLaws.{fresh-leaves}
 use Rattle.history.specs.Samples.{signature, message, unsigned, idOf, messageBody, unsignedBody, message-carried, start}
 use Rattle.history.specs.Samples.{signed-carried, unsigned-carried, start-fresh}
 use Rattle.lifetime.specs.Lifetime.{NewAt, Twice, othersNew}
+use Rattle.lifetime.specs.Back.{StepsBack, back-stays, Item, own, extra, InsertedBack, no-more, own-next}
+use Rattle.lifetime.specs.Back.{back-next, Unmoved, back-changes-nothing}
 use Rattle.lifetime.specs.Scripted.{formBy, othersBy, script-makes, script-twice, script-between, script-again}
 
 -- ---- the calls: an admit of the sample with that seqno, with a signature or without, at a reading
@@ -229,3 +232,29 @@ unfolding signature message unsigned isSigned slotsOf withField setPlace roleOf 
     inserted newest until held put gatewayAfter othersBy
 other-mark =
     new-again (signedAt 1 100) same-unsigned (signedAt 1 100) 100 100 1 marks-fresh marks-written refl refl refl refl refl
+
+-- ---- calls that step back: between an admit at 100 and one at 1099, an admit at 99 and a heartbeat at 0
+abbrev pub steps : List Item
+steps =
+    own (callOf (signedAt 1 100)) ∷ extra (callOf (signedAt 1 99)) ∷ extra (heartbeat 0)
+    ∷ own (callOf (signedAt 1 1099)) ∷ []
+
+alone-written-100 : Written 0 0 (signedAt 1 100 ∷ [])
+alone-written-100 = got 0 100 (message-carried 1 V11) (omega arith) nothing
+
+clock-100 : gatewayOf (after (callOf (signedAt 1 100)) (start usual)) .clock ≡ 100
+unfolding callsOf afterAll gatewayAfter
+clock-100 =
+    ap (λ (g : Gateway). g .clock) (fresh-leaves (signedAt 1 100 ∷ []) usual-fresh alone-written-100)
+    ∙ after-admit-clock 100 (message 1) (idOf 1) (startedBy usual)
+
+pub stepped-back : InsertedBack steps (start usual)
+stepped-back =
+    let s = after (callOf (signedAt 1 100)) (start usual) in
+    let a : StepsBack s (callOf (signedAt 1 99)) = record { at = 99; read = refl; earlier = omega (arith, clock-100) } in
+    let e = back-stays s (callOf (signedAt 1 99)) a in
+    let b : StepsBack s (heartbeat 0) = record { at = 0; read = refl; earlier = omega (arith, clock-100) } in
+    own-next (back-next a (back-next (subst (λ (t : State). StepsBack t (heartbeat 0)) (sym e) b) (own-next no-more)))
+
+pub unmoved : Unmoved steps (start usual)
+unmoved = back-changes-nothing stepped-back
