@@ -6,16 +6,14 @@ use mathlib.Core.Path.{_≡_}
 use mathlib.Core.Bool.{Bool, false, cond, _&&_}
 use mathlib.Core.List.{List, [], _∷_}
 use mathlib.Core.Option.{Option, none, some}
-use lib.Dec.{leb, ltb}
+use lib.Dec.{leb, ltb, eqb}
 use Rattle.basis.specs.declared.Mode.{Mode}
 use Rattle.basis.specs.Dialect.{modeOf}
 use Rattle.rows.specs.Ids.{sameBytes}
-use Rattle.node.specs.declared.Admit.{Admit}
-use Rattle.node.specs.declared.Admit.the-variants as answer
 use Rattle.node.specs.Gateway.{formOf}
 use Rattle.node.specs.Calls.{Plan, no, taken}
 use Rattle.history.specs.History.{State, Call, admit, heartbeat, advertise, ask, serve, explain, planIn, answerIn, after}
-use Rattle.history.specs.History.{afterAll, reading}
+use Rattle.history.specs.History.{afterAll, reading, isNew}
 
 -- ---- the seen form of the message that a call takes: only an admit does, and one that is refused takes none
 abbrev pub planForm : Mode → Plan → Option (List ℕ)
@@ -31,18 +29,9 @@ takenForm s (serve ed body second out) = none
 takenForm s (explain id topic windows) = none
 
 -- ---- the one that it made new: it takes it, and answers new
-abbrev pub whereNew : Admit → Option (List ℕ) → Option (List ℕ)
-whereNew answer.New form = form
-whereNew answer.Duplicate form = none
-whereNew (answer.Faulty why) form = none
-whereNew (answer.Refused why) form = none
-whereNew (answer.NoMessage n) form = none
-whereNew (answer.Unfit why) form = none
-whereNew (answer.ClockBack clock) form = none
-
 unfoldable pub madeNew : State → Call → Option (List ℕ)
 madeNew s (admit ed body i word at) =
-    whereNew (answerIn s ed body i word at) (takenForm s (admit ed body i word at))
+    cond (eqb (isNew (answerIn s ed body i word at)) 1) (takenForm s (admit ed body i word at)) none
 madeNew s (heartbeat at) = none
 madeNew s (advertise topic windows out) = none
 madeNew s (ask ed body out) = none

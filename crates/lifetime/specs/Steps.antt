@@ -6,7 +6,7 @@ use mathlib.Core.Bool.{Bool, true, false, cond, not}
 use mathlib.Core.List.{List, [], _∷_, _++_}
 use mathlib.Core.Option.{Option, none, some}
 use native.Mathlib.Omega.{arith}
-use lib.Dec.{ltb}
+use lib.Dec.{ltb, eqb}
 use borrow.Author.Tests.{ltb-true, ltb-false}
 use Rattle.basis.specs.declared.Edition.{Edition}
 use Rattle.basis.specs.Dialect.{modeOf}
@@ -22,10 +22,10 @@ use Rattle.node.specs.State.{gatewayIn}
 use Rattle.node.specs.Calls.{Plan, no, taken}
 use Rattle.node.specs.Laws.{plan-takes, admit-says}
 use Rattle.history.specs.History.{State, gatewayOf, Call, admit, heartbeat, advertise, ask, serve}
-use Rattle.history.specs.History.{explain, planIn, answerIn, after, afterAll, reading}
+use Rattle.history.specs.History.{explain, planIn, answerIn, after, afterAll, reading, isNew as answersNew}
 use Rattle.history.specs.Laws.{node-clock, Kept, after-keeps, admit-none, admit-leaves}
 use Rattle.history.specs.Laws.{beat-leaves}
-use Rattle.lifetime.specs.Lifetime.{takenForm, whereNew, madeNew, NewAt}
+use Rattle.lifetime.specs.Lifetime.{takenForm, madeNew, NewAt}
 use Rattle.lifetime.specs.Back.{back-stays}
 
 -- ---- a step from one gateway to the next, at the readings of a call, by the form that it made new
@@ -63,14 +63,9 @@ beat-step : (at : ℕ) (g : Gateway) → g .clock ≤ at → Step g (afterBeat a
 unfolding afterBeat
 beat-step at g forward = swept at forward refl refl
 
-where-none : (r : Admit) → whereNew r none ≡ none
-where-none answer.New = refl
-where-none answer.Duplicate = refl
-where-none (answer.Faulty why) = refl
-where-none (answer.Refused why) = refl
-where-none (answer.NoMessage n) = refl
-where-none (answer.Unfit why) = refl
-where-none (answer.ClockBack clock) = refl
+where-none : (b : Bool) → _≡_ {A = Option (List ℕ)} (cond b none none) none
+where-none true = refl
+where-none false = refl
 
 -- ---- every call
 module _ (s : State) (kept : Kept s) where
@@ -81,7 +76,7 @@ module _ (s : State) (kept : Kept s) where
 
     none-made : (r : Admit) → planIn s ed body i word at ≡ no r → madeNew s this ≡ none
     unfolding madeNew takenForm
-    none-made r e = rw e (where-none r)
+    none-made r e = rw e (where-none (eqb (answersNew r) 1))
 
     module _ (m id : List ℕ) (e : planIn s ed body i word at ≡ taken m id) where
       forward : gatewayOf s .clock ≤ at

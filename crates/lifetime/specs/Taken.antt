@@ -3,12 +3,13 @@
 -- new as well; and where it takes none, it is refused.
 use Prim.Native.Nat.{ℕ, _≤_, _<_}
 use mathlib.Core.Path.{_≡_, refl, sym, ap, subst}
-use mathlib.Core.Bool.{Bool, true}
+use mathlib.Core.Bool.{Bool, true, cond}
 use mathlib.Core.List.{List}
 use mathlib.Core.Logic.{_↔_, _⊎_, inl, inr}
 use mathlib.Core.Option.{Option, none, some}
 use native.Mathlib.Omega.{arith}
-use lib.Dec.{ltb}
+use lib.Dec.{ltb, eqb}
+use borrow.Author.Tests.{eqb-true}
 use Rattle.basis.specs.declared.Edition.{Edition}
 use Rattle.basis.specs.Dialect.{modeOf, spoken}
 use Rattle.basis.specs.Cases.{either, clash}
@@ -38,9 +39,9 @@ use Rattle.node.specs.Calls.{Plan, no, taken, onLent, lentOf, planFit, planAt, 
 use Rattle.node.specs.Calls.{admitAnswer}
 use Rattle.node.specs.Laws.{plan-takes, takes-vouched, takes-own}
 use Rattle.history.specs.History.{State, gatewayOf, Settings, Fresh, Call, admit, planIn, answerIn, afterAll, refusalAt}
-use Rattle.history.specs.History.{brought}
+use Rattle.history.specs.History.{brought, isNew}
 use Rattle.history.specs.Laws.{node-clock, history-keeps, history-flags, brings-exactly, brings-that, brought-plan}
-use Rattle.lifetime.specs.Lifetime.{planForm, takenForm, whereNew, madeNew}
+use Rattle.lifetime.specs.Lifetime.{planForm, takenForm, madeNew}
 
 -- ---- an admit that takes nothing is refused
 pub fault-some : (why : Fault) → 0 < faultTold why .number
@@ -97,6 +98,16 @@ pub record Brings (flags : ℕ) (c : Call) (form : List ℕ) : Type 0 where
   pub gives : givesId flags message id ≡ true
   pub marked : form ≡ formOf (modeOf flags) message id
 
+-- ---- the answer that counts as new
+new-answer : (r : Admit) → isNew r ≡ 1 → r ≡ answer.New
+new-answer answer.New e = refl
+new-answer answer.Duplicate e = absurd (omega arith)
+new-answer (answer.Faulty why) e = absurd (omega arith)
+new-answer (answer.Refused why) e = absurd (omega arith)
+new-answer (answer.NoMessage n) e = absurd (omega arith)
+new-answer (answer.Unfit why) e = absurd (omega arith)
+new-answer (answer.ClockBack clock) e = absurd (omega arith)
+
 -- an admit answers with one of its two answers where it takes a form
 module _ (s : State) (ed : Edition) (body : List ℕ) (i : ℕ) (word : Bool) (at : ℕ) (form : List ℕ) where
   of-plan : (p : Plan) → planForm (modeOf (s .node .cache .flags)) p ≡ some form
@@ -112,14 +123,11 @@ module _ (s : State) (ed : Edition) (body : List ℕ) (i : ℕ) (word : Bool) (a
   taken-answers e = of-plan (planIn s ed body i word at) e
 
   -- one that is made new is taken, and the answer is new; and the other way round
-  where-new : (r : Admit) (o : Option (List ℕ)) → whereNew r o ≡ some form → (o ≡ some form) × (r ≡ answer.New)
-  where-new answer.New o e = (e, refl)
-  where-new answer.Duplicate o e = clash (cc)
-  where-new (answer.Faulty why) o e = clash (cc)
-  where-new (answer.Refused why) o e = clash (cc)
-  where-new (answer.NoMessage n) o e = clash (cc)
-  where-new (answer.Unfit why) o e = clash (cc)
-  where-new (answer.ClockBack clock) o e = clash (cc)
+  where-new : (r : Admit) (o : Option (List ℕ)) → cond (eqb (isNew r) 1) o none ≡ some form
+      → (o ≡ some form) × (r ≡ answer.New)
+  where-new r o e =
+      either (eqb (isNew r) 1) (λ t. (rw t at e, new-answer r (eqb-true (isNew r) 1 t)))
+      (λ t. clash (let z = rw t at e in cc))
 
   pub made-taken : (madeNew s (admit ed body i word at) ≡ some form)
       ↔ ((takenForm s (admit ed body i word at) ≡ some form) × (answerIn s ed body i word at ≡ answer.New))
