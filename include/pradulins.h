@@ -260,6 +260,9 @@ uint32_t pradulins_start(uint8_t node[PRADULINS_NODE_SIZE], uint64_t ttl, size_t
  * Admits the message at `index` of `body` (from 0), read in `edition`, where `verified` is the host's word on its signature ("senders", above), and `at` the reading
  * of the host's clock. The node drops the ids whose time is over, and then takes the message if its id is not seen.
  * values[0]: 1 where the message is new, and was stored; 0 where it is a duplicate. Both set the clock.
+ * From pradulins_start on no id is new twice (a signed message's and an unsigned one's are two), unless `at` is ttl or more above that of the first time, or max_seen or more other
+ * ids were new between; readings that step back are refused and change nothing of this. So choose a ttl above the time in which a message can still come in
+ * again, and then a max_seen so large that at most max_seen + 1 messages are new within any stretch of ttl: docs/OPERATING.md, "Sizes". This is of readings below 2^64 - 1.
  * Refused: 40, 41, 42, 10, 1 to 7 and 14 to 16, 11, 20, 21, 22, 34, 23, 24 or 25, 26, 35, 36, 27, 28, 29, 30, 31, in this order (14 to 16 by a node that skips groups,
  * here and below). Where unsigned messages are allowed ("flags", above), one with neither signature nor key meets none of 25, 26, 35, 36 and 27, whatever `verified` is.
  */

@@ -120,6 +120,10 @@ impl Gateway {
     /// Admits the message at `index` of `body` (from 0), which came by a stream of this edition. `verified` is the host's word that its signature was verified, and of a sender that is a SHA-256,
     /// that the message's key maps to it ([Senders](crate#senders)); `now` is the host's clock ([`Clock::now`](crate::Clock::now)).
     ///
+    /// From its start on a gateway calls no id new twice (a signed message's and an unsigned one's are two), unless `now` is `ttl` or more above that of the first time, or `max_seen` or more other ids
+    /// were new between; readings that step back are refused and change nothing of this. So choose a [`ttl`](Settings::ttl) above the time in which a message can still come in again, and then a
+    /// [`max_seen`](Settings::max_seen) so large that at most `max_seen` + 1 messages are new within any stretch of `ttl`. This is of readings below [`u64::MAX`].
+    ///
     /// Refused: what is wrong with the body (10, 1 to 7 and 14 to 16, 11), the index (20) or the message (21, 22, 34, 23 to 26, 35, 36, 27 to 30), in this order, and then
     /// [`Refusal::ClockBack`]. With [`Settings::allow_unsigned`] a message with neither signature nor key meets none of 25, 26, 35, 36 and 27, whatever `verified` is.
     pub fn admit(&mut self, edition: Edition, body: &[u8], index: usize, verified: bool, now: u64) -> Result<Admitted, Refusal> {
