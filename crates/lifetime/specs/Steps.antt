@@ -1,8 +1,8 @@
 -- What one call does to the ids that a gateway has seen: nothing; a clean-up at its reading; or a clean-up, and then an
 -- id more at the end, which is the form that it made new. The clock does not fall.
 use Prim.Native.Nat.{ℕ, _≤_}
-use mathlib.Core.Path.{_≡_, refl, sym, ap, subst}
-use mathlib.Core.Bool.{Bool, true, false, cond, not}
+use mathlib.Core.Path.{_≡_, refl, sym, ap, subst, _∙_}
+use mathlib.Core.Bool.{Bool, true, false, cond, not, Bool·not-not}
 use mathlib.Core.List.{List, [], _∷_, _++_}
 use mathlib.Core.Option.{Option, none, some}
 use native.Mathlib.Omega.{arith}
@@ -10,7 +10,7 @@ use lib.Dec.{ltb, eqb}
 use borrow.Author.Tests.{ltb-true, ltb-false}
 use Rattle.basis.specs.declared.Edition.{Edition}
 use Rattle.basis.specs.Dialect.{modeOf}
-use Rattle.basis.specs.Cases.{either, clash}
+use Rattle.basis.specs.Cases.{either}
 use Rattle.rows.specs.Rows.{newest}
 use Rattle.seen.specs.Entries.{holds, until, inserted, live}
 use Rattle.seen.specs.EntriesLaws.{insert-held}
@@ -37,25 +37,17 @@ pub data Step (g h : Gateway) : List ℕ → Option (List ℕ) → Type 0 where
       → Step g h (at ∷ []) (some form)
 
 -- ---- an admit that takes a message
-not-false : (b : Bool) → not b ≡ true → b ≡ false
-not-false true h = clash (cc)
-not-false false h = refl
-
-not-true : (b : Bool) → not b ≡ false → b ≡ true
-not-true true h = refl
-not-true false h = clash (cc)
-
 module _ (at : ℕ) (m id : List ℕ) (g : Gateway) (forward : g .clock ≤ at) where
   admit-new : isNew at m id g ≡ true → Step g (afterAdmit at m id g) (at ∷ []) (some (formOf (modeOf (g .flags)) m id))
   unfolding isNew afterAdmit inserted
   admit-new t =
-      let f = not-false (holds (formOf (modeOf (g .flags)) m id) (live at (g .seen))) t in
+      let f = sym (Bool·not-not (holds (formOf (modeOf (g .flags)) m id) (live at (g .seen)))) ∙ ap not t in
       entered at (formOf (modeOf (g .flags)) m id) forward refl f (rw f)
 
   admit-again : isNew at m id g ≡ false → Step g (afterAdmit at m id g) (at ∷ []) none
   unfolding isNew afterAdmit
   admit-again t =
-      let f = not-true (holds (formOf (modeOf (g .flags)) m id) (live at (g .seen))) t in
+      let f = sym (Bool·not-not (holds (formOf (modeOf (g .flags)) m id) (live at (g .seen)))) ∙ ap not t in
       swept at forward refl
       (insert-held (g .max-seen) (formOf (modeOf (g .flags)) m id) at (g .ttl) (live at (g .seen)) f)
 
@@ -70,7 +62,6 @@ where-none false = refl
 -- ---- every call
 module _ (s : State) (kept : Kept s) where
   module _ (ed : Edition) (body : List ℕ) (i : ℕ) (word : Bool) (at : ℕ) where
-    -- an admit is a call
     abbrev this : Call
     this = admit ed body i word at
 

@@ -5,7 +5,7 @@ use Prim.Native.Nat.{ℕ, _≤_, _<_}
 use mathlib.Core.Path.{_≡_, refl, sym, ap, subst}
 use mathlib.Core.Bool.{Bool, true, cond}
 use mathlib.Core.List.{List}
-use mathlib.Core.Logic.{_↔_, _⊎_, inl, inr}
+use mathlib.Core.Logic.{_↔_, _⊎_, inl, inr, ⊎-elim}
 use mathlib.Core.Option.{Option, none, some}
 use native.Mathlib.Omega.{arith}
 use lib.Dec.{ltb, eqb}
@@ -50,7 +50,7 @@ fault-some fault.BadStore = omega arith
 fault-some fault.Malformed = omega arith
 
 module _ (n : Node) (ss cs : List ℕ) (at : ℕ) (body : List ℕ) (i : ℕ) (word : Bool) where
-  -- none, or refused
+  -- it takes a form, or is refused
   abbrev TakenOr : Plan → Type 0
   TakenOr p = (planForm (modeOf (n .cache .flags)) p ≡ none → ⊥) ⊎ (0 < admitNumber (admitAnswer n ss at p))
 
@@ -83,14 +83,11 @@ module _ (s : State) (ed : Edition) (body : List ℕ) (i : ℕ) (word : Bool) (a
   pub untaken-refused : takenForm s (admit ed body i word at) ≡ none → 0 < refusalAt s (admit ed body i word at)
   unfolding takenForm
   untaken-refused e =
-      either-of (planned-or (s .node) (s .ids) (s .messages) at body i word ed)
-    where
-      either-of : (planForm (modeOf (s .node .cache .flags)) (planIn s ed body i word at) ≡ none → ⊥)
-          ⊎ (0 < admitNumber (answerIn s ed body i word at)) → 0 < admitNumber (answerIn s ed body i word at)
-      either-of (inl f) = absurd (f e)
-      either-of (inr h) = h
+      ⊎-elim
+      (λ (f : planForm (modeOf (s .node .cache .flags)) (planIn s ed body i word at) ≡ none → ⊥). absurd (f e))
+      (λ h. h) (planned-or (s .node) (s .ids) (s .messages) at body i word ed)
 
--- ---- the form that an admit takes is that of the message that it brings, by the call and the flags alone
+-- ---- a call brings a message that gives an id under the flags, and this is its seen form: by call and flags alone
 pub record Brings (flags : ℕ) (c : Call) (form : List ℕ) : Type 0 where
   pub message : List ℕ
   pub id : List ℕ
