@@ -1,6 +1,6 @@
 #!/usr/bin/env python3
 """Tests of what the oracle's comparisons and bench/bench say where something is missing, of the finder of places, of the models' peer ids, keys and
-admission, and of the models of editions, of groups and of lists. They need neither the Rust's files nor a program.
+admission, of the models of editions, of groups and of lists, and of what is asked of a notice's lifetime. They need neither the Rust's files nor a program.
 
     python3 tools/test_oracle.py
 """
@@ -24,6 +24,7 @@ import bodies  # noqa: E402
 import caches  # noqa: E402
 import compare_editions  # noqa: E402
 import compare_groups  # noqa: E402
+import compare_lifetime  # noqa: E402
 import editions  # noqa: E402
 import groups  # noqa: E402
 import keys  # noqa: E402
@@ -40,7 +41,7 @@ from places import DIALECTS, GROUPS, V1_1, V1_2, skips_groups  # noqa: E402
 
 RUST = ("compare_wire", "compare_decode", "compare_write", "compare_editions", "compare_groups", "compare_caches", "compare_keys", "compare_admission", "compare_lists")
 PROGRAM = {"compare_wire": "inspect", "compare_decode": "inspect", "compare_write": "inspect", "compare_editions": "inspect", "compare_groups": "inspect", "compare_caches": "caches",
-           "compare_trace": "trace", "compare_states": "states", "make_states": "states", "compare_why": "why", "make_why": "why", "compare_keys": "inspect",
+           "compare_trace": "trace", "compare_lifetime": "trace", "compare_states": "states", "make_states": "states", "compare_why": "why", "make_why": "why", "compare_keys": "inspect",
            "compare_admission": "states", "compare_lists": "inspect"}
 
 
@@ -776,6 +777,45 @@ class Lists(unittest.TestCase):
         self.assertGreater(met["tosign bytes"], 900)
         for number in lists.REFUSALS["write"] - {13}:
             self.assertGreater(met["write %d" % number], 3, number)
+
+
+class Lifetimes(unittest.TestCase):
+    """The sentences on a notice's lifetime, on the scope's rows and on answers that break them."""
+
+    SETTINGS = ("set", 1000, 2, 2, 4)
+    ROWS = ((0, 100, "new"), (0, 1099, "dup"), (0, 99, "refused 31"), (0, 1100, "new"), (1, 1100, "new"), (0, 1100, "dup"), (2, 1100, "new"), (0, 1100, "new"), (0, 1099, "refused 31"))
+
+    def steps(self, rows):
+        return [self.SETTINGS] + [compare_lifetime.admit(at, compare_lifetime.NOTICES[which]) for which, at, _ in rows]
+
+    def counted(self, rows):
+        counts = collections.Counter()
+        compare_lifetime.test(self.steps(rows), ["ok"] + [answer for _, _, answer in rows], counts)
+        return counts
+
+    def test_rows(self):
+        told = nodes.expected(nodes.records(self.steps(self.ROWS)))
+        self.assertEqual(compare_lifetime.answers(told), ["ok"] + [answer for _, _, answer in self.ROWS])
+        self.assertEqual(compare_lifetime.steps_back(self.steps(self.ROWS)), [False] + [answer == "refused 31" for _, _, answer in self.ROWS])
+        self.assertEqual(self.counted(self.ROWS), {
+            "pairs that are new": 3, "exactly ttl later, too few others": 1, "exactly max_seen others, within ttl": 1, "taken again, within both bounds": 2})
+
+    def test_wrong(self):
+        for rows in (((0, 100, "new"), (0, 1099, "new")), ((0, 100, "new"), (1, 100, "new"), (0, 100, "new")), ((0, 5, "new"), (1, 6, "new"), (1, 900, "dup"), (0, 1004, "new"))):
+            with self.assertRaises(compare_lifetime.Wrong):
+                self.counted(rows)
+        # The same a unit later, after one other more, and at the last reading, of which nothing is said.
+        for rows in (((0, 100, "new"), (0, 1100, "new")), ((0, 100, "new"), (1, 100, "new"), (2, 100, "new"), (0, 100, "new")), ((0, nodes.TOP - 1, "new"), (0, nodes.TOP, "new"))):
+            self.counted(rows)
+
+    def test_random(self):
+        """The model keeps them."""
+        r = random.Random(7)
+        for _ in range(40):
+            steps = compare_lifetime.history(r)
+            told = compare_lifetime.answers(nodes.expected(nodes.records(steps)))
+            compare_lifetime.test(steps, told, collections.Counter())
+            self.assertEqual([answer == "refused 31" for answer in told], compare_lifetime.steps_back(steps))
 
 
 if __name__ == "__main__":
