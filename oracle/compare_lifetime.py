@@ -3,11 +3,12 @@
 
     oracle/compare_lifetime.py BINARY [--seed N] [--count N]
 
-BINARY is target/bin/trace, after `rt check trace`. --count random histories are played,
-each of one node with a small ttl and max_seen: admits of a few notices and heartbeats, at
-readings that mostly stand or go on a little and sometimes step back. From the lines that
-are printed, and from nothing else, it is tested (docs/SCOPE.md, "Never twice within a
-lifetime"):
+BINARY is target/bin/trace, after `rt check trace`. All histories of four calls are played
+for nine small settings, over admits of two notices and a heartbeat at three readings; and
+--count random ones, each of one node with a small ttl and max_seen: admits of a few notices
+and heartbeats, at readings that mostly stand or go on a little and sometimes step back. From
+the lines that are printed, and from nothing else, it is tested (docs/SCOPE.md, "Never twice
+within a lifetime"):
 
   - two admits that answer new for one notice are at least ttl apart, or at least max_seen
     others between them answer new;
@@ -22,6 +23,7 @@ first histories that fail, if any. The exit status is 0 where there are none.
 """
 
 import collections
+import itertools
 import random
 import sys
 import tempfile
@@ -34,7 +36,7 @@ from nodes import TOP
 from peers import A
 from traces import admit, beat, x_body
 
-CHUNK = 400
+CHUNK = 1000
 COUNT = 4000
 NOTICES = [x_body(A, bytes([n])) for n in range(1, 7)]
 NEW, DUP = "new", "dup"
@@ -46,6 +48,14 @@ def reading(step):
 
 def notice(step):
     return step[4] if step[0] == "admit" else None
+
+
+def short():
+    """All histories of four calls."""
+    calls = [call for at in (1, 2, 3) for call in (admit(at, NOTICES[0]), admit(at, NOTICES[1]), beat(at))]
+    for ttl, most in itertools.product((0, 1, 2), (0, 1, 2)):
+        for some in itertools.product(calls, repeat=4):
+            yield [("set", ttl, most, 2, 4), *some]
 
 
 def history(r):
@@ -113,10 +123,11 @@ def test(steps, told, counts):
 def main():
     given = arguments(__doc__, COUNT, "trace", rust=False)
     r = random.Random(given.seed)
-    counts, wrong = collections.Counter(), []
+    counts, wrong, played = collections.Counter(), [], 0
+    source = itertools.chain(short(), (history(r) for _ in range(given.count)))
     with tempfile.TemporaryDirectory() as folder:
-        for _ in range(0, given.count, CHUNK):
-            chunk = [history(r) for _ in range(CHUNK)]
+        while chunk := list(itertools.islice(source, CHUNK)):
+            played += len(chunk)
             kept = [[step for step, back in zip(steps, steps_back(steps)) if not back] for steps in chunk]
             whole, fewer = (answers(run(given.binary, [b"".join(map(nodes.records, all_of))], folder)) for all_of in (chunk, kept))
             for steps, some in zip(chunk, kept):
@@ -133,7 +144,7 @@ def main():
                 counts["calls"] += len(steps)
     for name, k in sorted(counts.items()):
         print("%-36s %8d" % (name, k))
-    print("%d histories, seed %d: %d that fail" % (-(-given.count // CHUNK) * CHUNK, given.seed, len(wrong)))
+    print("%d histories, seed %d: %d that fail" % (played, given.seed, len(wrong)))
     for why, steps in wrong[:3]:
         print("\n# %s" % why)
         print("\n".join(map(shown, steps)))
