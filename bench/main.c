@@ -668,12 +668,18 @@ static void cache_cases(size_t count)
     measure(name, our_cache_lent, NULL, 0, 512);
 }
 
-static void node_cases(void)
+/* The two calls that move the clock, on a full node under `node_flags`; then it is filled anew. */
+static void node_clock_cases(const char *duplicate, const char *heartbeat)
 {
     fill_node();
-    measure("node/admit-duplicate", node_admit_dup, NULL, 0, 8);
-    measure("node/heartbeat", node_heartbeat, NULL, 0, 8);
+    measure(duplicate, node_admit_dup, NULL, 0, 8);
+    measure(heartbeat, node_heartbeat, NULL, 0, 8);
     fill_node();
+}
+
+static void node_cases(void)
+{
+    node_clock_cases("node/admit-duplicate", "node/heartbeat");
     measure("node/advertise", node_advertise, NULL, 0, 8);
     measure("node/explain", node_explain, NULL, 0, 8);
     measure("node/ask", node_ask, NULL, 0, 8);
@@ -686,10 +692,7 @@ static void node_cases(void)
     measure("node/read-test", node_test, NULL, 0, 8);
     measure("node/admit-new", node_admit_new, NULL, 0, 8);
     node_flags = PRADULINS_GROUPS;
-    fill_node();
-    measure("node-groups/admit-duplicate", node_admit_dup, NULL, 0, 8);
-    measure("node-groups/heartbeat", node_heartbeat, NULL, 0, 8);
-    fill_node();
+    node_clock_cases("node-groups/admit-duplicate", "node-groups/heartbeat");
     measure("node-groups/ask", node_ask, NULL, 0, 8);
     measure("node-groups/serve", node_serve, NULL, 0, 8);
 }

@@ -170,12 +170,17 @@ def edition_rows():
                 yield dialect, "id", whole, 0, ["39 %s01" % SENDER.hex()]
 
 
-def editions():
+def played(rows):
+    """Records of these rows, and their lines."""
     records, lines = b"", []
-    for n, (dialect, call, body, place, told) in enumerate(edition_rows(), 1):
+    for n, (dialect, call, body, place, told) in enumerate(rows, 1):
         records += wire.record((call, bytes.fromhex(body), place), dialect)
         lines += ["%d %s %s" % (n, call, told[0])] + told[1:]
     return records, lines
+
+
+def editions():
+    return played(edition_rows())
 
 
 # ---- bodies with groups, in all dialects
@@ -239,11 +244,7 @@ def group_rows():
 
 
 def groups():
-    records, lines = b"", []
-    for n, (dialect, call, body, place, told) in enumerate(group_rows(), 1):
-        records += wire.record((call, bytes.fromhex(body), place), dialect)
-        lines += ["%d %s %s" % (n, call, told[0])] + told[1:]
-    return records, lines
+    return played(group_rows())
 
 
 # ---- what a host says by itself: rows over lent bytes
