@@ -1,5 +1,6 @@
 -- What the flag that allows unsigned messages changes: with it off, nothing of what admission was before there were
--- flags; with a signature, nothing; and what is taken with it off is taken with it on.
+-- flags; with a signature, nothing; and what is taken with it off is taken with it on. What the flag that skips groups
+-- changes: nothing of a message that the first mode reads.
 use Prim.Native.Nat.{ℕ, _-_}
 use mathlib.Core.Path.{_≡_, refl, sym, ap, _∙_}
 use mathlib.Core.Bool.{Bool, true, false, cond, _&&_, and-true}
@@ -12,8 +13,11 @@ use Rattle.basis.specs.Cases.{either, clash, both}
 use Rattle.schema.specs.declared.Kind.the-variants as kind
 use Rattle.schema.specs.declared.Place.{Place}
 use Rattle.schema.specs.declared.Place.the-variants as place
+use Rattle.schema.specs.declared.Counted.{Counted}
+use Rattle.schema.specs.declared.Counted.the-variants as count
 use Rattle.schema.specs.Count.{counted}
 use Rattle.schema.specs.Slots.{slotsOf}
+use Rattle.schema.specs.Modes.{same-fields, same-slots, same-counted}
 use Rattle.ids.specs.declared.MessageId.{MessageId}
 use Rattle.ids.specs.declared.MessageId.the-variants as id
 use Rattle.ids.specs.Ids.{idParts}
@@ -23,10 +27,10 @@ use Rattle.admission.specs.declared.Unfit.the-variants.{InvalidSignature
 use Rattle.admission.specs.declared.Admission.{Admission}
 use Rattle.admission.specs.declared.Admission.the-variants as admission
 use Rattle.admission.specs.Flags.{allowsUnsigned}
-use Rattle.admission.specs.Admission.{Span, topicPlaces, sameSpans, onLimits, onWord, onKey, onSignature, onPeer}
+use Rattle.admission.specs.Admission.{topicsAlong, topicsOf, Span, placesAlong, topicPlaces, sameSpans, onLimits, onWord, onKey, onSignature, onPeer}
 use Rattle.admission.specs.Admission.{senderOf, onId, admissionOf, isThere, isSigned, idGiven, whereRead, givesId}
 use Rattle.admission.specs.Admission.{keptWith}
-use Rattle.admission.specs.AdmissionLaws.{Gives, gives-only, gives-own, gives-signed}
+use Rattle.admission.specs.AdmissionLaws.{Gives, gives-only, gives-own, gives-refused, gives-signed}
 
 -- ---- the four numbers that flags may have: bit 0 and the mode do not depend on each other
 pub known-modes : (modeOf 0 ≡ Plain) × (modeOf 1 ≡ Plain) × (modeOf 2 ≡ Groups) × (modeOf 3 ≡ Groups)
@@ -134,3 +138,64 @@ pub gives-not : (flags : ℕ) (p i : List ℕ) → allowsUnsigned flags ≡ fals
     → givesId flags p i ≡ false
 gives-not flags p i h n =
     either (givesId flags p i) (λ t. clash (let z = gives-signed flags p i t h in cc)) (λ t. t)
+
+-- ---- the mode: what the first mode reads and would take, the second takes as well, where the other flag is the same
+module _ (flags other : ℕ) (plain : modeOf flags ≡ Plain) (groups : modeOf other ≡ Groups)
+    (same : allowsUnsigned other ≡ allowsUnsigned flags) (p : List ℕ) (n : ℕ)
+    (read : counted Plain kind.RawMessage p ≡ count.Records n) where
+  topics-mode : topicsOf Groups p ≡ topicsOf Plain p
+  unfolding topicsOf
+  topics-mode = ap (topicsAlong p) (same-fields kind.RawMessage p n read)
+
+  limits-mode : (r : Admission) → onLimits Groups p r ≡ onLimits Plain p r
+  unfolding onLimits
+  limits-mode r = rw topics-mode
+
+  parts-mode : idParts Groups p ≡ idParts Plain p
+  unfolding idParts
+  parts-mode = rw (same-slots kind.RawMessage p n read)
+
+  id-mode : (word : Bool) (i : MessageId) → onId other p word i ≡ onId flags p word i
+  id-mode word id.MissingFrom = refl
+  id-mode word (id.InvalidFrom k) = refl
+  id-mode word id.InvalidSeqno = rw (plain, groups, same-slots kind.RawMessage p n read)
+  id-mode word (id.Parts a e b f) =
+      rw (plain, groups, same, same-slots kind.RawMessage p n read, limits-mode (admission.Fit a e b f))
+
+  pub admission-mode : (word : Bool) → admissionOf other p word ≡ admissionOf flags p word
+  unfolding admissionOf
+  admission-mode word =
+      ap (λ (m : Mode). onId other p word (idParts m p)) groups ∙ ap (onId other p word) parts-mode
+      ∙ ap (λ (m : Mode). onId other p word (idParts m p)) (sym plain) ∙ id-mode word (idParts (modeOf flags) p)
+
+  places-mode : topicPlaces Groups p ≡ topicPlaces Plain p
+  unfolding topicPlaces
+  places-mode = ap placesAlong (same-fields kind.RawMessage p n read)
+
+  counts-mode : counted Groups kind.RawMessage p ≡ count.Records n
+  counts-mode = same-counted kind.RawMessage p (λ why e. clash (let c = read in cc)) ∙ read
+
+  kept-read : (i : List ℕ) (ts : List Span) → keptWith flags p i ts ≡ true → keptWith other p i ts ≡ true
+  unfolding keptWith givesId
+  kept-read i ts k =
+      rw (groups, counts-mode, admission-mode true, places-mode)
+      (let z = rw (plain, read) at k in z)
+
+kept-gives : (flags : ℕ) (p i : List ℕ) (ts : List Span) → keptWith flags p i ts ≡ true → givesId flags p i ≡ true
+unfolding keptWith
+kept-gives flags p i ts k = both (givesId flags p i) (sameSpans (topicPlaces (modeOf flags) p) ts) k .0
+
+kept-by : (flags other : ℕ) → modeOf flags ≡ Plain → modeOf other ≡ Groups
+    → allowsUnsigned other ≡ allowsUnsigned flags → (p i : List ℕ) (ts : List Span) → keptWith flags p i ts ≡ true
+    → (r : Counted) → counted Plain kind.RawMessage p ≡ r → keptWith other p i ts ≡ true
+kept-by flags other plain groups same p i ts k (count.Records n) e =
+    kept-read flags other plain groups same p n e i ts k
+kept-by flags other plain groups same p i ts k (count.Refused why) e = clash (let z = kept-gives flags p i ts k in
+    let w = gives-refused flags p i why (ap (λ (m : Mode). counted m kind.RawMessage p) plain ∙ e) in cc)
+
+-- so what is cached in the first mode may be taken in the second: a mode that is set from outside is not found out
+pub kept-mode : (flags other : ℕ) → modeOf flags ≡ Plain → modeOf other ≡ Groups
+    → allowsUnsigned other ≡ allowsUnsigned flags → (p i : List ℕ) (ts : List Span) → keptWith flags p i ts ≡ true
+    → keptWith other p i ts ≡ true
+kept-mode flags other plain groups same p i ts k =
+    kept-by flags other plain groups same p i ts k (counted Plain kind.RawMessage p) refl

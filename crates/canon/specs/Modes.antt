@@ -30,7 +30,7 @@ use Rattle.schema.specs.SchemaLaws.{held-rank}
 use Rattle.schema.specs.Kinds.{by-rank}
 use Rattle.schema.specs.Count.{roleCount, countAlong, counted}
 use Rattle.schema.specs.CountLaws.{count-along, plus-fits, then-fits}
-use Rattle.meaning.specs.Modes.{same-fields, same-slots, same-has}
+use Rattle.schema.specs.Modes.{same-fields, same-slots, same-has}
 use Rattle.ids.specs.declared.MessageAt.the-variants.{At}
 use Rattle.ids.specs.Ids.{messageAlong, messageAt}
 use Rattle.rpc.specs.Encode.{signPrefix}

@@ -30,7 +30,7 @@ use Rattle.rpc.specs.Grammar.{bytesIn, last, Each, none-left, IsMessage, is-mes
 use Rattle.rpc.specs.Encode.{repeated, signPrefix}
 use Rattle.meaning.specs.Back.{mkMessage, same-message}
 use Rattle.meaning.specs.Decoded.{Within}
-use Rattle.meaning.specs.Modes.{NoGroupBody, same-slots, same-accept}
+use Rattle.schema.specs.Modes.{NoGroupBody, same-slots, same-accept}
 use Rattle.ids.specs.declared.MessageAt.{MessageAt}
 use Rattle.ids.specs.declared.MessageAt.the-variants.{At, Count}
 use Rattle.ids.specs.Ids.{messageAt, onFrom, idParts, ofWritten as message, answerId, leftId, answerAt, leftAt}

@@ -42,10 +42,10 @@ use Rattle.schema.specs.declared.Tested.{Tested}
 use Rattle.schema.specs.declared.Tested.the-variants as tested
 use Rattle.schema.specs.Spots.{spotIn}
 use Rattle.schema.specs.Schema.{roleOf, rank, ownOf}
-use Rattle.schema.specs.Count.{plus, andThen, textCount, roleCount, countAlong, counted}
+use Rattle.schema.specs.Count.{andThen, textCount, roleCount, countAlong, counted}
 use Rattle.schema.specs.SchemaLaws.{sub-rank}
 use Rattle.schema.specs.Kinds.{by-rank}
-use Rattle.schema.specs.CountLaws.{count-along}
+use Rattle.schema.specs.CountLaws.{count-along, plus-refused}
 use Rattle.schema.specs.Accept.{bodyRecords}
 use Rattle.schema.specs.AcceptLaws.{Gate, large, bad, many, passes, gate, records-taken, records-many, records-large}
 use Rattle.schema.specs.AcceptLaws.{records-wrong}
@@ -225,10 +225,6 @@ text-early mode s f n why h =
     either (isUtf8 (between s (f .start) (f .next))) (λ t. clash (let e = simp t at h in cc))
     (λ t. let e = simp t at h in let w : why ≡ InvalidUtf8 (f .«tag_end») = cc in rw w (low {n = 7} (omega arith)))
 
-plus-early : (n : ℕ) (r : Counted) (why : WireError) → plus n r ≡ count.Refused why → r ≡ count.Refused why
-plus-early n (count.Records m) why h = clash (cc)
-plus-early n (count.Refused w) why h = cc
-
 role-early : (mode : Mode) (s : List ℕ) (f : Field) (r : Role) (why : WireError)
     → roleCount (counted mode) s f r ≡ count.Refused why
     → ((j : Kind) (form : Form) (p : List ℕ) → r ≡ Sub j form → counted mode j p ≡ count.Refused why
@@ -243,7 +239,7 @@ role-early mode s f Topic why h ih = text-early mode s f 1 why h
 role-early mode s f MessageId why h ih = clash (cc)
 role-early mode s f (Sub k form) why h ih =
     ih k form (between s (f .start) (f .next)) refl
-    (plus-early (ownOf k) (counted mode k (between s (f .start) (f .next))) why h)
+    (plus-refused (ownOf k) (counted mode k (between s (f .start) (f .next))) why h)
 
 -- the refusals that a walk ends in
 data Ending (mode : Mode) : Fields → Type 0 where

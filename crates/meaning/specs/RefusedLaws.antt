@@ -29,9 +29,7 @@ use Rattle.peer_id.specs.Told.{varintTold}
 use Rattle.peer_id.specs.Uvarint.{uvarint}
 use Rattle.protobuf.specs.declared.Field.{Field}
 use Rattle.protobuf.specs.declared.WireError.{WireError}
-use Rattle.protobuf.specs.declared.WireError.the-variants.{Varint, FieldOverflow, UnsupportedWireType}
-use Rattle.protobuf.specs.declared.WireError.the-variants.{InvalidFieldNumber, InvalidUtf8, EndGroup, GroupDepth}
-use Rattle.protobuf.specs.declared.WireError.the-variants.{GroupOpen, TooLarge, TooManyRecords}
+use Rattle.protobuf.specs.declared.WireError.the-variants.{InvalidUtf8}
 use Rattle.protobuf.specs.declared.Step.the-variants as step
 use Rattle.protobuf.specs.Refusal.{spotOf, placedAs}
 use Rattle.protobuf.specs.Field.{readField}
@@ -46,6 +44,7 @@ use Rattle.protobuf.specs.FaultLaws.{is-fault, fault-refused}
 use Rattle.protobuf.specs.Walk.{Fields, walkAt, payloadOf, entryOf, valueIn}
 use Rattle.protobuf.specs.WalkLaws.{along, walk-on, between-length}
 use Rattle.protobuf.specs.Exactly.{Stood, field-stood, Found, found}
+use Rattle.protobuf.specs.RefusalLaws.{told-place}
 use Rattle.schema.specs.declared.Kind.{Kind}
 use Rattle.schema.specs.declared.Kind.the-variants as kind
 use Rattle.schema.specs.declared.Form.{Form}
@@ -57,7 +56,7 @@ use Rattle.schema.specs.Schema.{addedIn, rowFrom, rowOf, isVarint, roleOf, rank
 use Rattle.schema.specs.SchemaLaws.{sub-rank}
 use Rattle.schema.specs.Kinds.{by-rank}
 use Rattle.schema.specs.Count.{plus, andThen, textCount, roleCount, countAlong, counted}
-use Rattle.schema.specs.CountLaws.{count-along}
+use Rattle.schema.specs.CountLaws.{count-along, plus-refused}
 use Rattle.schema.specs.Spots.{textSpot, roleSpot, spotAlong, spotIn}
 use Rattle.schema.specs.SpotsLaws.{spot-along, role-clean}
 use Rattle.schema.specs.TextLaws.{IsText, text as is-text, topic as is-topic}
@@ -89,34 +88,6 @@ told-by (At offset outer middle inner) x y f e = ap f e
 told-own : (own x : Spot) → own ≡ placedAs own x → placedAs own own ≡ placedAs own x
 told-own Nowhere x e = refl
 told-own (At offset outer middle inner) x e = e
-
--- 1 to 7 have a place
-pub told-place : (why : WireError) (x : Spot) → refusalNumber why ≤ 7 → placedAs (spotOf why) x ≡ x
-told-place (Varint error offset) x h = refl
-told-place (FieldOverflow offset size remaining) x h = refl
-told-place (UnsupportedWireType type offset) x h = refl
-told-place (InvalidFieldNumber field offset) x h = refl
-told-place (InvalidUtf8 offset) x h = refl
-told-place EndGroup x h = absurd (omega arith)
-told-place GroupDepth x h = absurd (omega arith)
-told-place GroupOpen x h = absurd (omega arith)
-told-place (TooLarge len) x h = absurd (omega arith)
-told-place (TooManyRecords records) x h = absurd (omega arith)
-
--- and 14 to 16 have none
-pub told-nowhere : (why : WireError) (x : Spot) → 14 ≤ refusalNumber why → placedAs (spotOf why) x ≡ Nowhere
-told-nowhere (Varint BufferTooShort offset) x h = absurd (omega arith)
-told-nowhere (Varint Overflow offset) x h = absurd (omega arith)
-told-nowhere (Varint NonCanonical offset) x h = absurd (omega arith)
-told-nowhere (FieldOverflow offset size remaining) x h = absurd (omega arith)
-told-nowhere (UnsupportedWireType type offset) x h = absurd (omega arith)
-told-nowhere (InvalidFieldNumber field offset) x h = absurd (omega arith)
-told-nowhere (InvalidUtf8 offset) x h = absurd (omega arith)
-told-nowhere EndGroup x h = refl
-told-nowhere GroupDepth x h = refl
-told-nowhere GroupOpen x h = refl
-told-nowhere (TooLarge len) x h = refl
-told-nowhere (TooManyRecords records) x h = refl
 
 -- ---- what a field holds, and its role
 bytes-payload : (s : List ℕ) (f : Field) → f .«wire_type» ≡ 2 → payloadOf s f ≡ bytes (valueIn s f)
@@ -254,9 +225,6 @@ record Refuses (mode : Mode) (k : Kind) (s : List ℕ) (at : ℕ) (why : WireErr
   is : RefusedAt mode k at (drop at s) path offset why
   told : placedAs (spotOf why) spot ≡ toldAt why offset path
 
-plus-refused : (n : ℕ) (r : Counted) (why : WireError) → plus n r ≡ count.Refused why → r ≡ count.Refused why
-plus-refused n (count.Records m) why h = clash (cc)
-plus-refused n (count.Refused w) why h = cc
 
 text-refuses : (mode : Mode) (k : Kind) (s : List ℕ) (at : ℕ) (f : Field) (n m : ℕ) (why : WireError) (r : Role)
     (x : Spot) → Stood mode s at f → Stands s at f → RoleAt k f ≡ r → IsText r m → f .«wire_type» ≡ 2

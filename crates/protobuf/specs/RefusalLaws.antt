@@ -10,6 +10,8 @@ use borrow.Author.Tests.{leb-false}
 use Rattle.basis.specs.declared.Mode.{Mode}
 use Rattle.basis.specs.declared.Mode.the-variants.{Plain, Groups}
 use Rattle.basis.specs.Cases.{either, clash}
+use Rattle.basis.specs.declared.Spot.{Spot}
+use Rattle.basis.specs.declared.Spot.the-variants.{Nowhere}
 use Rattle.basis.specs.Spot.{Within}
 use Rattle.basis.specs.Told.{valuesOf}
 use Rattle.peer_id.specs.declared.VarintError.{VarintError}
@@ -33,7 +35,7 @@ use Rattle.protobuf.specs.declared.VarintValue.the-variants as value
 use Rattle.protobuf.specs.declared.Skip.{Skip}
 use Rattle.protobuf.specs.declared.Skip.the-variants as skip
 use Rattle.protobuf.specs.declared.Step.the-variants as step
-use Rattle.protobuf.specs.Refusal.{spotOf}
+use Rattle.protobuf.specs.Refusal.{spotOf, placedAs}
 use Rattle.protobuf.specs.Told.{refusalNumber, refusalValues, refusalTold}
 use Rattle.protobuf.specs.Grammar.{maxGroups}
 use Rattle.protobuf.specs.Laws.{tag-moves, Moves, passed-moves, from-moves, group-moves}
@@ -70,6 +72,34 @@ wire-range GroupDepth = (omega arith, omega arith)
 wire-range GroupOpen = (omega arith, omega arith)
 wire-range (TooLarge len) = (omega arith, omega arith)
 wire-range (TooManyRecords records) = (omega arith, omega arith)
+
+-- 1 to 7 have a place
+pub told-place : (why : WireError) (x : Spot) → refusalNumber why ≤ 7 → placedAs (spotOf why) x ≡ x
+told-place (Varint error offset) x h = refl
+told-place (FieldOverflow offset size remaining) x h = refl
+told-place (UnsupportedWireType type offset) x h = refl
+told-place (InvalidFieldNumber field offset) x h = refl
+told-place (InvalidUtf8 offset) x h = refl
+told-place EndGroup x h = absurd (omega arith)
+told-place GroupDepth x h = absurd (omega arith)
+told-place GroupOpen x h = absurd (omega arith)
+told-place (TooLarge len) x h = absurd (omega arith)
+told-place (TooManyRecords records) x h = absurd (omega arith)
+
+-- and 14 to 16 have none
+pub told-nowhere : (why : WireError) (x : Spot) → 14 ≤ refusalNumber why → placedAs (spotOf why) x ≡ Nowhere
+told-nowhere (Varint BufferTooShort offset) x h = absurd (omega arith)
+told-nowhere (Varint Overflow offset) x h = absurd (omega arith)
+told-nowhere (Varint NonCanonical offset) x h = absurd (omega arith)
+told-nowhere (FieldOverflow offset size remaining) x h = absurd (omega arith)
+told-nowhere (UnsupportedWireType type offset) x h = absurd (omega arith)
+told-nowhere (InvalidFieldNumber field offset) x h = absurd (omega arith)
+told-nowhere (InvalidUtf8 offset) x h = absurd (omega arith)
+told-nowhere EndGroup x h = refl
+told-nowhere GroupDepth x h = refl
+told-nowhere GroupOpen x h = refl
+told-nowhere (TooLarge len) x h = refl
+told-nowhere (TooManyRecords records) x h = refl
 
 -- the numbers by which a mode refuses a field
 pub data OfField : Mode → ℕ → Type 0 where

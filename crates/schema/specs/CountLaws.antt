@@ -17,6 +17,7 @@ use Rattle.schema.specs.declared.Kind.the-variants as kind
 use Rattle.schema.specs.declared.Form.{Form}
 use Rattle.schema.specs.declared.Role.{Role}
 use Rattle.schema.specs.declared.Role.the-variants.{Skip, Number, Text, Bytes, Unsigned, Topic, MessageId, Sub}
+use Rattle.protobuf.specs.declared.WireError.{WireError}
 use Rattle.schema.specs.declared.Counted.{Counted}
 use Rattle.schema.specs.declared.Counted.the-variants.{Records, Refused}
 use Rattle.schema.specs.Schema.{roleOf, rank, ownOf}
@@ -76,6 +77,10 @@ text-fits s f n m h =
 pub plus-fits : (n m : ℕ) (r : Counted) → plus n r ≡ Records m → (x : ℕ) × (r ≡ Records x) × (m ≡ n + x)
 plus-fits n m (Records x) h = (x, refl, cc)
 plus-fits n m (Refused why) h = clash (cc)
+
+pub plus-refused : (n : ℕ) (r : Counted) (why : WireError) → plus n r ≡ Refused why → r ≡ Refused why
+plus-refused n (Records m) why h = clash (cc)
+plus-refused n (Refused w) why h = cc
 
 role-fits : (s : List ℕ) (at : ℕ) (f : Field) (r : Role) (sub : Kind → List ℕ → Counted) (m : ℕ) → Stands s at f
     → roleCount sub s f r ≡ Records m → ((j : Kind) (form : Form) (p : List ℕ) (x : ℕ) → r ≡ Sub j form

@@ -1,5 +1,5 @@
 -- To be believed: Count, Spots, Accept, Told. Cited by contracts, and joined to these by theorems: Schema (the table; by
--- Decoded of meaning), Slots (by Back of meaning), Kinds, Made. Theorems: TextLaws, Rows. On the way to them: SchemaLaws,
+-- Decoded of meaning), Slots (by Back of meaning), Kinds, Made. Theorems: TextLaws, Modes, Rows. On the way to them: SchemaLaws,
 -- CountLaws, SpotsLaws, AcceptLaws, SlotsLaws.
 pub mod Told
 pub mod Schema
@@ -15,4 +15,5 @@ pub mod SpotsLaws
 pub mod AcceptLaws
 pub mod TextLaws
 pub mod SlotsLaws
+pub mod Modes
 pub mod Rows

@@ -26,7 +26,8 @@ use Rattle.message.specs.declared.Decoded.{Decoded}
 use Rattle.message.specs.declared.Decoded.the-variants.{Records, Room}
 use Rattle.message.specs.declared.Record.{Record}
 use Rattle.message.specs.Rows.{rowsOf, wordsOfAll}
-use Rattle.message.specs.Modes.{same-has, same-rows}
+use Rattle.schema.specs.Modes.{same-has}
+use Rattle.message.specs.Modes.{same-rows}
 use Rattle.message.specs.RowsLaws.{rows-length}
 use Rattle.message.specs.Decode.{hasControl, onCount, decodeAnswer, leaves, decodeTable}
 use borrow.Author.Needs.{needs}
