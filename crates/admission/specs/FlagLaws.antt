@@ -3,7 +3,7 @@
 -- changes: nothing of a message that the first mode reads.
 use Prim.Native.Nat.{ℕ, _-_}
 use mathlib.Core.Path.{_≡_, refl, sym, ap, _∙_}
-use mathlib.Core.Bool.{Bool, true, false, cond, _&&_, and-true}
+use mathlib.Core.Bool.{Bool, true, false, cond, _&&_}
 use mathlib.Core.List.{List}
 use lib.Dec.{eqb}
 use Rattle.basis.specs.declared.Mode.{Mode}
@@ -30,7 +30,7 @@ use Rattle.admission.specs.Flags.{allowsUnsigned}
 use Rattle.admission.specs.Admission.{topicsAlong, topicsOf, Span, placesAlong, topicPlaces, sameSpans, onLimits, onWord, onKey, onSignature, onPeer}
 use Rattle.admission.specs.Admission.{senderOf, onId, admissionOf, isThere, isSigned, idGiven, whereRead, givesId}
 use Rattle.admission.specs.Admission.{keptWith}
-use Rattle.admission.specs.AdmissionLaws.{Gives, gives-only, gives-own, gives-refused, gives-signed}
+use Rattle.admission.specs.AdmissionLaws.{gives-refused, gives-signed}
 
 -- ---- the four numbers that flags may have: bit 0 and the mode do not depend on each other
 pub known-modes : (modeOf 0 ≡ Plain) × (modeOf 1 ≡ Plain) × (modeOf 2 ≡ Groups) × (modeOf 3 ≡ Groups)

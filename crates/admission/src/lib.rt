@@ -45,9 +45,6 @@ pub const MAX_MESSAGE_SIZE: usize = 4096;
 // A setting: messages without a signature and without a key may be taken.
 pub const ALLOW_UNSIGNED: usize = 1;
 
-// A setting: groups are passed over.
-pub const SKIP_GROUPS: usize = 2;
-
 // The highest number that the known flags make.
 pub const MAX_FLAGS: usize = 3;
 

@@ -6,7 +6,7 @@ use mathlib.Core.Path.{_≡_, refl, sym, ap, subst, _∙_}
 use mathlib.Core.Bool.{true}
 use mathlib.Core.List.{List, [], _∷_, append-nil}
 use native.Mathlib.Omega.{arith}
-use lib.ListN.{length, getD, take}
+use lib.ListN.{length, getD}
 use lib.Seq.{sets}
 use borrow.Author.Tests.{le-ltb}
 use Rattle.basis.specs.declared.Edition.the-variants.{V11, V12}
@@ -15,7 +15,6 @@ use Rattle.basis.specs.Cases.{either}
 use Rattle.basis.specs.Lists.{answer-fits, written-fits}
 use Rattle.rows.specs.Ids.{sameBytes, among}
 use Rattle.rows.specs.IdsLaws.{same-self, among-at}
-use Rattle.rows.specs.ListLaws.{put-sets}
 use Rattle.protobuf.specs.declared.Checked.the-variants as checked
 use Rattle.protobuf.specs.Encode.{bytesField}
 use Rattle.schema.specs.Accept.{acceptOf}
@@ -36,6 +35,7 @@ use Rattle.node.specs.Calls.{serveAnswer, serveLeft, cachedOf, remaining, roomO
 use Rattle.node.specs.Calls.{serveNumber}
 use Rattle.node.specs.ReplyLaws.{reply-some}
 use Rattle.outputs.specs.Adverts.{advert-rpc, advert-taken}
+use Rattle.outputs.specs.Exactly.{at-front}
 use Rattle.history.specs.History.{State, gatewayOf, Settings, admit, advertise, ask, serve, refusalAt, servedBytes}
 use Rattle.history.specs.History.{servedMessages, admits}
 use Rattle.agreement.specs.Round.{Play, Fair, advertBy, advertOf, requestOf, replyAnswer, replyOf, servedCount}
@@ -46,10 +46,6 @@ use Rattle.agreement.specs.HandOver.{lacks-exactly}
 use Rattle.agreement.specs.Fifteen.{fifteen-fit}
 use Rattle.agreement.specs.Delivered.{Delivers, reply-taken}
 use Rattle.agreement.specs.Lacking.{Got, fine, told-got}
-
--- bytes at the front of a buffer
-front : (s out : List ℕ) → length s ≤ length out → take (length s) (sets out 0 s) ≡ s
-front s out h = put-sets out 0 s (omega arith)
 
 -- ---- a reply
 room-full : (out : List ℕ) → 65536 ≤ length out → roomOf out ≡ 65536
@@ -77,7 +73,7 @@ unfolding replyBytes servedOf fitting
 reply-answers [] out h = record { done = refl; bytes = refl; count = refl }
 reply-answers (m ∷ ms) out h =
     rw (reply-some m ms out (λ e. omega arith))
-    (record { done = refl; bytes = front (replyBytes (m ∷ ms) out) out (reply-fits (m ∷ ms) out); count = refl })
+    (record { done = refl; bytes = at-front (replyBytes (m ∷ ms) out) out (reply-fits (m ∷ ms) out); count = refl })
 
 -- ---- each message that is asked for
 having-at : (g : Gateway) (is : List (List ℕ)) → ((i : List ℕ) → among i is ≡ true → held i (g .cache) ≡ true) → (j : ℕ)
@@ -115,7 +111,7 @@ module _ {set : List (List ℕ)} {y : Settings} {firstB pastB leftB : ℕ} {rsB 
 
   pub advertise-is : advertBy topic windows out b ≡ advertiseBytes (b .node) (b .messages) topic windows
   unfolding advertBy
-  advertise-is = rw (advertise-answer, advertise-left) (front adverted out adverted-small)
+  advertise-is = rw (advertise-answer, advertise-left) (at-front adverted out adverted-small)
 
 module _ {set : List (List ℕ)} {x y : Settings} {firstA pastA leftA firstB pastB leftB : ℕ} {rsA rsB : List ℕ}
     {gotA gotB : List (List ℕ)} {a b : State}
@@ -169,7 +165,7 @@ module _ {set : List (List ℕ)} {x y : Settings} {firstA pastA leftA firstB pas
   pub requested : requestOf p a b ≡ askBytes (a .node) (a .ids)
       (advertiseBytes (b .node) (b .messages) (p .topic) (p .windows))
   unfolding requestOf
-  requested = rw (advert-is, request-answer, request-left) (front asking (p .request-out 0) asking-small)
+  requested = rw (advert-is, request-answer, request-left) (at-front asking (p .request-out 0) asking-small)
 
   -- ---- the reply
   unfoldable pub wants : List (List ℕ)

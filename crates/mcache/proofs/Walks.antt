@@ -1,27 +1,26 @@
 -- One step of each walk over the rows.
 use Prim.Native.Nat.{ℕ, zero, suc, _+_, _-_, _*_, _%_, _^_, _≤_, _<_, min}
-use mathlib.Core.Path.{_≡_, refl, sym, ap, ap₂, _∙_}
+use mathlib.Core.Path.{_≡_, refl, sym, ap, _∙_}
 use mathlib.Core.List.{List, [], _∷_, _++_, map, map-append, append-assoc, append-nil}
-use mathlib.Core.Bool.{Bool, true, false, cond, _&&_}
+use mathlib.Core.Bool.{Bool, true, false, _&&_}
 use native.Mathlib.Omega.{arith}
 use native.Mathlib.Nat.{zero-add}
 use native.Mathlib.Numerals.{add-one}
 use lib.ListN.{length, take, drop, getD, set, length-drop, drop-of-length-le, length-take, length-append, length-map}
 use lib.ListN.{take-append-drop}
 use lib.Seq.{drop-cons, take-suc, set-at, getD-at, take-all, length-take-le, sets, length-sets, set-out, getD-take}
-use lib.Dec.{leb, ltb, eqb}
+use lib.Dec.{leb, eqb}
 use borrow.Author.Tests.{le-leb, lt-leb, lt-ltb, le-ltb, eq-eqb, ne-eqb, leb-true, leb-false}
 use Rattle.basis.specs.declared.Mode.{Mode}
 use Rattle.basis.specs.Cases.{either}
 use Rattle.rows.specs.declared.Ring.{Ring}
 use Rattle.rows.specs.Rows.{tab, placeOf, rowsIn}
 use Rattle.rows.specs.RowsLaws.{length-tab, getD-tab, map-tab, length-ring, ring-from, ring-end, place-lt}
-use Rattle.rows.specs.ListLaws.{put-sets}
+use Rattle.rows.specs.ListLaws.{put-sets, map-take}
 use Rattle.basis.specs.Writing.{endIn, setIn}
 use Rattle.basis.specs.Unique.{Leaves}
 use Rattle.basis.specs.Lists.{sets-append, end-fits, set-fits}
 use Rattle.protobuf.specs.Walk.{between}
-use Rattle.ids.specs.Ids.{idBytes}
 use Rattle.rows.specs.Ids.{sameBytes, among}
 use Rattle.rows.specs.IdsLaws.{among-more, among-here, among-none}
 use Rattle.rows.specs.Store.{inUse, idAt}
@@ -249,11 +248,6 @@ front vs a n m l e =
     let c : sets a 0 vs ≡ sets a 0 (take m vs) =
     ap (sets a 0) (sym (take-append-drop m vs)) ∙ sets-append a 0 (take m vs) (drop m vs) ∙ rw (zero-add (length (take m vs))) s in
     rw (c, ← w) (put-sets a 0 (take m vs) (omega arith))
-
-map-take : {A B : Type 0} (f : A → B) (n : ℕ) (l : List A) → map f (take n l) ≡ take n (map f l)
-map-take f zero l = refl
-map-take f (suc n) [] = refl
-map-take {B = B} f (suc n) (x ∷ l) = ap (λ (r : List B). f x ∷ r) (map-take f n l)
 
 module _ (mode : Mode) (m : List ℕ) (k n : ℕ) (e : k ≡ length (topicPlaces mode m)) (f : n ≡ min k maxTopics) where
   pub kept-length : n ≡ length (keptPlaces mode m)

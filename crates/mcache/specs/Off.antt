@@ -2,12 +2,13 @@
 -- each definition that reads it equals the one it was, which stands here. And what becomes of a lent state whose flag is
 -- set from outside.
 use Prim.Native.Nat.{ℕ, _-_, _<_}
-use mathlib.Core.Path.{_≡_, refl, ap, ap₂, _∙_}
+use mathlib.Core.Path.{_≡_, refl, ap, ap₂}
 use mathlib.Core.List.{List}
 use mathlib.Core.Bool.{Bool, true, false, _&&_, and-true}
 use lib.ListN.{getD}
 use lib.Dec.{leb}
 use Rattle.basis.specs.declared.Mode.{Mode}
+use Rattle.basis.specs.declared.Mode.the-variants.{Plain, Groups}
 use Rattle.basis.specs.declared.Edition.{Edition}
 use Rattle.basis.specs.Dialect.{modeOf, spoken}
 use Rattle.basis.specs.Cases.{clash, both}
@@ -27,9 +28,9 @@ use Rattle.ids.specs.declared.MessageAt.{MessageAt}
 use Rattle.ids.specs.declared.MessageAt.the-variants as at
 use Rattle.ids.specs.Ids.{messageAt}
 use Rattle.admission.specs.Flags.{knownFlags, allowsUnsigned}
-use Rattle.admission.specs.Admission.{isSigned}
+use Rattle.admission.specs.Admission.{Span, isSigned, keptWith}
 use Rattle.admission.specs.AdmissionLaws.{gives-refused, gives-signed}
-use Rattle.admission.specs.FlagLaws.{admissionWas, keptWas, admission-off, kept-off, kept-on}
+use Rattle.admission.specs.FlagLaws.{admissionWas, keptWas, admission-off, kept-off, kept-on, kept-mode}
 use Rattle.mcache.specs.declared.MessageCache.{MessageCache}
 use Rattle.mcache.specs.declared.Lent.the-variants as lent
 use Rattle.mcache.specs.declared.Put.the-variants as put
@@ -136,35 +137,45 @@ withFlags flags c =
       flags = flags;
     }
 
--- turned on, it is not found out
-pub turned-on : (c : MessageCache) (st : List ℕ) (flags : ℕ) → modeOf (c .flags) ≡ modeOf flags
-    → allowsUnsigned (c .flags) ≡ false → knownFlags flags ≡ true → lentOf c st ≡ lent.Fine
-    → lentOf (withFlags flags c) st ≡ lent.Fine
-unfolding withFlags givesIn givesAt
-turned-on c st flags mode off known f =
-    let t = fine-tests c st f in
-    tests-fine (withFlags flags c) st
-    (record {
-      room = t .room;
-      history-some = t .history-some;
-      history-few = t .history-few;
-      few = t .few;
-      known = known;
-      starts = t .starts;
-      within = t .within;
-      falls = t .falls;
-      runs = t .runs;
-      id-short = t .id-short;
-      gives = in-true _ (ringOf c)
-          (λ i h.
-          let p = placeOf (ringOf c) i in
-          let b = both (leb (getD (c .len) p 0) messageSize) _
-          (true-in (givesAt (c .flags) (c .len) (c .«id_len») (c .ids) (tableOf c) st) (ringOf c) (t .gives) i h) in
-          rw (b .0)
-          (kept-on (c .flags) flags (messageIn (c .len) st p) (idAt messageIdSize (c .«id_len») (c .ids) p)
-          (topicsAt (tableOf c) p) mode off (b .1)));
-      once = t .once;
-    })
+-- flags under which all that is kept may be kept are not found out
+module _ (c : MessageCache) (st : List ℕ) (flags : ℕ) (known : knownFlags flags ≡ true) (fine : lentOf c st ≡ lent.Fine) where
+  reset : ((p i : List ℕ) (ts : List Span) → keptWith (c .flags) p i ts ≡ true → keptWith flags p i ts ≡ true)
+      → lentOf (withFlags flags c) st ≡ lent.Fine
+  unfolding withFlags givesIn givesAt
+  reset kept =
+      let t = fine-tests c st fine in
+      tests-fine (withFlags flags c) st
+      (record {
+        room = t .room;
+        history-some = t .history-some;
+        history-few = t .history-few;
+        few = t .few;
+        known = known;
+        starts = t .starts;
+        within = t .within;
+        falls = t .falls;
+        runs = t .runs;
+        id-short = t .id-short;
+        gives = in-true _ (ringOf c)
+            (λ i h.
+            let p = placeOf (ringOf c) i in
+            let b = both (leb (getD (c .len) p 0) messageSize) _
+            (true-in (givesAt (c .flags) (c .len) (c .«id_len») (c .ids) (tableOf c) st) (ringOf c) (t .gives) i h) in
+            rw (b .0)
+            (kept (messageIn (c .len) st p) (idAt messageIdSize (c .«id_len») (c .ids) p) (topicsAt (tableOf c) p)
+            (b .1)));
+        once = t .once;
+      })
+
+  -- the one that allows unsigned messages, turned on
+  pub turned-on : modeOf (c .flags) ≡ modeOf flags → allowsUnsigned (c .flags) ≡ false
+      → lentOf (withFlags flags c) st ≡ lent.Fine
+  turned-on mode off = reset (λ p i ts. kept-on (c .flags) flags p i ts mode off)
+
+  -- the one that skips groups, turned on
+  pub groups-on : modeOf (c .flags) ≡ Plain → modeOf flags ≡ Groups
+      → allowsUnsigned flags ≡ allowsUnsigned (c .flags) → lentOf (withFlags flags c) st ≡ lent.Fine
+  groups-on plain groups same = reset (kept-mode (c .flags) flags plain groups same)
 
 -- turned off with a message cached that has no signature, it is 42
 pub turned-off : (c : MessageCache) (st : List ℕ) (i : ℕ) → allowsUnsigned (c .flags) ≡ false → i < c .count

@@ -58,7 +58,7 @@ use Rattle.outputs.specs.Requested.{request-within}
 use Rattle.outputs.specs.Advertised.{advertise-means, no-topic-no-bytes}
 
 -- ---- bytes at the front of a buffer
-at-front : (s out : List ℕ) → length s ≤ length out → take (length s) (sets out 0 s) ≡ s
+pub at-front : (s out : List ℕ) → length s ≤ length out → take (length s) (sets out 0 s) ≡ s
 at-front s out h = put-sets out 0 s (omega arith)
 
 front : (x : Rpc) (s out : List ℕ) → s ≡ encodeRpc x → length s ≤ length out → Writes x (length s) out (sets out 0 s)

@@ -29,10 +29,10 @@ use Rattle.rows.specs.StoreLaws.{index-among}
 use Rattle.protobuf.specs.declared.Checked.the-variants as checked
 use Rattle.protobuf.specs.Encode.{bytesField}
 use Rattle.rpc.specs.Rpc.{RawMessage, Rpc}
-use Rattle.rpc.specs.Grammar.{Each, none-left, _and_, Pairs, no-pairs, _paired_, IsMessage, IsRpc}
+use Rattle.rpc.specs.Grammar.{Each, none-left, _and_, Pairs, IsMessage, IsRpc}
 use Rattle.rpc.specs.Encode.{repeated, encodeRpc}
 use Rattle.meaning.specs.Size.{recordsIn}
-use Rattle.meaning.specs.Modes.{plain-message}
+use Rattle.meaning.specs.Modes.{pairs-of, plain-message}
 use Rattle.schema.specs.Accept.{acceptOf}
 use Rattle.canon.specs.Canon.{canonBody}
 use Rattle.canon.specs.Written.{canon-written}
@@ -124,16 +124,11 @@ published-bytes : (vs : List RawMessage)
 unfolding encodeRpc
 published-bytes vs = append-nil (repeated (λ m. bytesField 2 (m .raw)) vs) ∙ raw-fields vs
 
-plain-messages : {ds : List (List ℕ)} {ms : List RawMessage} → Pairs (IsMessage Plain) ds ms
-    → Pairs (IsMessage Groups) ds ms
-plain-messages no-pairs = no-pairs
-plain-messages (p paired ps) = plain-message p paired plain-messages ps
-
 -- messages of a mode are messages of one as wide
 as-wide : {mode other : Mode} → AsWide mode other → {ds : List (List ℕ)} {ms : List RawMessage}
     → Pairs (IsMessage mode) ds ms → Pairs (IsMessage other) ds ms
 as-wide itself ps = ps
-as-wide {mode = Plain} groups ps = plain-messages ps
+as-wide {mode = Plain} groups ps = pairs-of (λ d m. plain-message) ps
 as-wide {mode = Groups} groups ps = ps
 
 pub replies : (mode : Mode) (ms : List (List ℕ)) (out : List ℕ) → Each (Message mode) ms → length ms ≤ 64
