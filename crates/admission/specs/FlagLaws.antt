@@ -21,6 +21,7 @@ use Rattle.schema.specs.Modes.{same-fields, same-slots, same-counted}
 use Rattle.ids.specs.declared.MessageId.{MessageId}
 use Rattle.ids.specs.declared.MessageId.the-variants as id
 use Rattle.ids.specs.Ids.{idParts}
+use Rattle.ids.specs.Modes.{same-parts}
 use Rattle.admission.specs.declared.Unfit.the-variants.{MissingFrom, InvalidFrom, InvalidSeqno}
 use Rattle.admission.specs.declared.Unfit.the-variants.{KeyWithoutSignature, MissingSignature}
 use Rattle.admission.specs.declared.Unfit.the-variants.{InvalidSignatureLength}
@@ -151,10 +152,6 @@ module _ (flags other : ℕ) (plain : modeOf flags ≡ Plain) (groups : modeOf o
   unfolding onLimits
   limits-mode r = rw topics-mode
 
-  parts-mode : idParts Groups p ≡ idParts Plain p
-  unfolding idParts
-  parts-mode = rw (same-slots kind.RawMessage p n read)
-
   id-mode : (word : Bool) (i : MessageId) → onId other p word i ≡ onId flags p word i
   id-mode word id.MissingFrom = refl
   id-mode word (id.InvalidFrom k) = refl
@@ -165,7 +162,7 @@ module _ (flags other : ℕ) (plain : modeOf flags ≡ Plain) (groups : modeOf o
   pub admission-mode : (word : Bool) → admissionOf other p word ≡ admissionOf flags p word
   unfolding admissionOf
   admission-mode word =
-      ap (λ (m : Mode). onId other p word (idParts m p)) groups ∙ ap (onId other p word) parts-mode
+      ap (λ (m : Mode). onId other p word (idParts m p)) groups ∙ ap (onId other p word) (same-parts p n read)
       ∙ ap (λ (m : Mode). onId other p word (idParts m p)) (sym plain) ∙ id-mode word (idParts (modeOf flags) p)
 
   places-mode : topicPlaces Groups p ≡ topicPlaces Plain p

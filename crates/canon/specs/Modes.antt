@@ -1,18 +1,16 @@
 -- Laws between the modes. Where the first mode accepts a message, its canonical bytes are the same in both, and so are
--- those of a body, the places of its messages, and what is signed of them, whatever the bytes are.
+-- those of a body, and what is signed of its messages, whatever the bytes are.
 use Prim.Native.Nat.{ℕ, _+_, _<_}
-use mathlib.Core.Path.{_≡_, refl, sym, ap, ap₂, subst, _∙_}
+use mathlib.Core.Path.{_≡_, refl, sym, ap, ap₂, _∙_}
 use mathlib.Core.Bool.{Bool, true, cond}
 use mathlib.Core.List.{List, [], _++_}
-use lib.Dec.{eqb}
 use lib.ListN.{length}
-use borrow.Author.Tests.{eqb-true}
 use Rattle.basis.specs.declared.Mode.the-variants.{Plain, Groups}
 use Rattle.basis.specs.declared.Edition.{Edition}
-use Rattle.basis.specs.Cases.{either, clash, both}
+use Rattle.basis.specs.Cases.{either, clash}
 use Rattle.basis.specs.Dialect.{spoken}
 use Rattle.protobuf.specs.declared.Field.{Field}
-use Rattle.protobuf.specs.Walk.{Fields, end, refused, _then_, fieldsOf, between, isBytes, valueIn}
+use Rattle.protobuf.specs.Walk.{Fields, end, refused, _then_, fieldsOf, isBytes, valueIn}
 use Rattle.protobuf.specs.Encode.{bytesField}
 use Rattle.schema.specs.declared.Kind.{Kind}
 use Rattle.schema.specs.declared.Kind.the-variants as kind
@@ -22,27 +20,20 @@ use Rattle.schema.specs.declared.Held.{Held}
 use Rattle.schema.specs.declared.Held.the-variants as held
 use Rattle.schema.specs.declared.Role.{Role}
 use Rattle.schema.specs.declared.Role.the-variants.{Skip, Number, Text, Bytes, Unsigned, Topic, MessageId, Sub}
-use Rattle.schema.specs.declared.Counted.{Counted}
 use Rattle.schema.specs.declared.Counted.the-variants.{Records}
 use Rattle.schema.specs.declared.Slots.{Slots}
-use Rattle.schema.specs.Schema.{table, rowOf, isVarint, roleOf, formedAs, heldOf, rank, ownOf}
+use Rattle.schema.specs.Schema.{table, rowOf, formedAs, heldOf, rank}
 use Rattle.schema.specs.SchemaLaws.{held-rank}
 use Rattle.schema.specs.Kinds.{by-rank}
-use Rattle.schema.specs.Count.{roleCount, countAlong, counted}
-use Rattle.schema.specs.CountLaws.{count-along, plus-fits, then-fits}
-use Rattle.schema.specs.Modes.{same-fields, same-slots, same-has}
-use Rattle.ids.specs.declared.MessageAt.the-variants.{At}
-use Rattle.ids.specs.Ids.{messageAlong, messageAt}
+use Rattle.schema.specs.Count.{countAlong, counted}
+use Rattle.schema.specs.CountLaws.{count-along, then-fits}
+use Rattle.schema.specs.Modes.{countAt, sub-accepted, same-fields, same-slots, same-has}
 use Rattle.rpc.specs.Encode.{signPrefix}
 use Rattle.canon.specs.Canon.{ownPart, eachAlong, eachOf, heldPart, partWith, canon, entriesOf, mergedOf}
 use Rattle.canon.specs.Canon.{bodyPart, canonBody, signOf}
 use Rattle.canon.specs.CanonLaws.{same-order, canon-fields}
 
--- how the first mode counts a field of a message
-abbrev countAt : Kind → List ℕ → Field → Counted
-countAt k s f = roleCount (counted Plain) s f (roleOf k (f .field) (f .«wire_type»))
-
--- ---- a submessage of a message that is accepted is accepted
+-- ---- what is made anew stands in a submessage
 formed-anew : (i j : Kind) (form : Form) → formedAs i form ≡ held.Anew j → Sub i form ≡ Sub j Anew
 formed-anew i j Anew h = let e : i ≡ j = cc in ap (λ (k : Kind). Sub k Anew) e
 formed-anew i j Whole h = clash (cc)
@@ -57,21 +48,6 @@ anew-sub (Unsigned slot) j h = clash (cc)
 anew-sub Topic j h = clash (cc)
 anew-sub MessageId j h = clash (cc)
 anew-sub (Sub i form) j h = formed-anew i j form h
-
-sub-role : (k j : Kind) (form : Form) (m : ℕ) (f : Field) → rowOf k m ≡ Sub j form → isBytes m f ≡ true
-    → roleOf k (f .field) (f .«wire_type») ≡ Sub j form
-unfolding roleOf
-sub-role k j form m f h t =
-    let b = both (eqb (f .«wire_type») 2) (eqb (f .field) m) t in
-    rw (eqb-true (f .«wire_type») 2 (b .0), eqb-true (f .field) m (b .1))
-    (ap (λ (r : Role). cond (isVarint r) Skip r) h)
-
-sub-accepted : (k j : Kind) (form : Form) (m : ℕ) (s : List ℕ) (f : Field) (x : ℕ) → rowOf k m ≡ Sub j form
-    → isBytes m f ≡ true → countAt k s f ≡ Records x → (y : ℕ) × (counted Plain j (valueIn s f) ≡ Records y)
-sub-accepted k j form m s f x h t q =
-    let e = subst (λ (r : Role). roleCount (counted Plain) s f r ≡ Records x) (sub-role k j form m f h t) q in
-    let p = plus-fits (ownOf j) x (counted Plain j (valueIn s f)) e in
-    (p .0, p .1)
 
 -- ---- what is written of each field m, by g in one mode and by h in the other
 module _ (k : Kind) (s : List ℕ) (m : ℕ) (g h : List ℕ → List ℕ)
@@ -144,31 +120,3 @@ module _ (e : Edition) (s : List ℕ) (n : ℕ) (q : counted Plain (kind.Rpc e) 
       (ap₂ _++_ (held-same (kind.Rpc e) s 2 n held.Whole refl q (λ j l. same-message j))
       (ap (λ (x : List ℕ). x ++ [])
       (ap₂ (λ (t : Bool) (x : List ℕ). cond t (bytesField 3 x) []) (same-has (kind.Rpc e) s n 3 q) merged-same)))
-
-  -- the place of message i
-  pub same-place : (i : ℕ) → messageAt Groups s i ≡ messageAt Plain s i
-  unfolding messageAt
-  same-place i = ap (messageAlong i 0) (same-fields (kind.Rpc e) s n q)
-
--- and that message is accepted
-placed-along : (e : Edition) (s : List ℕ) (w : Fields) (i k a z n : ℕ) → messageAlong i k w ≡ At a z
-    → countAlong (counted Plain) (kind.Rpc e) s w ≡ Records n
-    → (y : ℕ) × (counted Plain kind.RawMessage (between s a z) ≡ Records y)
-placed-along e s end i k a z n h q = clash (cc)
-placed-along e s (refused why) i k a z n h q = clash (cc)
-placed-along e s (f then w) i k a z n h q =
-    let t = then-fits (countAt (kind.Rpc e) s f) (countAlong (counted Plain) (kind.Rpc e) s w) n q in
-    either (isBytes 2 f)
-    (λ b. either (eqb k i)
-    (λ u. let g = simp (b, u) at h in
-    let pa : f .start ≡ a = cc in let pz : f .next ≡ z = cc in
-    subst (λ (p : List ℕ). (y : ℕ) × (counted Plain kind.RawMessage p ≡ Records y)) (ap₂ (between s) pa pz)
-    (sub-accepted (kind.Rpc e) kind.RawMessage Whole 2 s f (t .0) refl b (t .2)))
-    (λ u. placed-along e s w i (k + 1) a z (t .1) (simp (b, u) at h) (t .3)))
-    (λ b. placed-along e s w i k a z (t .1) (simp b at h) (t .3))
-
-pub message-accepted : (e : Edition) (s : List ℕ) (n i a z : ℕ) → counted Plain (kind.Rpc e) s ≡ Records n
-    → messageAt Plain s i ≡ At a z → (y : ℕ) × (counted Plain kind.RawMessage (between s a z) ≡ Records y)
-unfolding messageAt
-message-accepted e s n i a z q h =
-    placed-along e s (fieldsOf Plain s) i 0 a z n h (sym (count-along Plain (kind.Rpc e) s) ∙ q)

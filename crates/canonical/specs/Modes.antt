@@ -20,9 +20,6 @@ use Rattle.protobuf.specs.Grammar.{Entry, BodyIn, Body}
 use Rattle.protobuf.specs.Walk.{between}
 use Rattle.protobuf.specs.Encode.{bytesField, ofWritten}
 use Rattle.schema.specs.declared.Kind.the-variants as kind
-use Rattle.schema.specs.declared.Counted.the-variants.{Records}
-use Rattle.schema.specs.declared.Slots.{Slots}
-use Rattle.schema.specs.Count.{counted}
 use Rattle.schema.specs.Accept.{checked, acceptOf}
 use Rattle.schema.specs.AcceptLaws.{is-taken}
 use Rattle.rpc.specs.Rpc.{RawMessage, Rpc}
@@ -30,17 +27,18 @@ use Rattle.rpc.specs.Grammar.{bytesIn, last, Each, none-left, IsMessage, is-mes
 use Rattle.rpc.specs.Encode.{repeated, signPrefix}
 use Rattle.meaning.specs.Back.{mkMessage, same-message}
 use Rattle.meaning.specs.Decoded.{Within}
-use Rattle.schema.specs.Modes.{NoGroupBody, same-slots, same-accept}
+use Rattle.schema.specs.Modes.{NoGroupBody, same-accept}
 use Rattle.ids.specs.declared.MessageAt.{MessageAt}
 use Rattle.ids.specs.declared.MessageAt.the-variants.{At, Count}
-use Rattle.ids.specs.Ids.{messageAt, onFrom, idParts, ofWritten as message, answerId, leftId, answerAt, leftAt}
+use Rattle.ids.specs.Ids.{messageAt, idParts, ofWritten as message, answerId, leftId, answerAt, leftAt}
 use Rattle.ids.specs.Ids.{answerChecked, leftChecked, idAnswer, idLeft}
 use Rattle.encode.specs.Encode.{encodeChecked, encodeAnswer, encodedChecked, encodeLeft}
 use Rattle.encode.specs.Sign.{signAt, signChecked, signAnswer, signedAt, signedChecked, signLeft}
 use Rattle.canon.specs.Canon.{canonBody, signOf}
 use Rattle.canon.specs.Shorter.{signedFields}
 use Rattle.canon.specs.Written.{canon-written, canon-message}
-use Rattle.canon.specs.Modes.{same-canon, same-signed, same-place, message-accepted}
+use Rattle.ids.specs.Modes.{same-place, message-accepted, same-parts}
+use Rattle.canon.specs.Modes.{same-canon, same-signed}
 use Rattle.canonical.specs.Means.{opt, bytesEntries, body-append, bytes-body, bytes-here, bytes-there}
 use Rattle.canonical.specs.Means.{bytes-sized, each-last, optional-opt, last-opt, found-of, Around}
 use Rattle.canonical.specs.Means.{canonical-around}
@@ -157,10 +155,6 @@ same-sign e s i out g =
     (ap (signChecked Groups s i out) a ∙ r .0, ap (signedChecked Groups s i out) a ∙ r .1)
 
 -- ---- message_id and seen_message_id, with what stands before the id
-same-parts : (p : List ℕ) (n : ℕ) → counted Plain kind.RawMessage p ≡ Records n → idParts Groups p ≡ idParts Plain p
-unfolding idParts
-same-parts p n q = ap (λ (t : Slots). onFrom (t .first) (t .third)) (same-slots kind.RawMessage p n q)
-
 id-at : (pre s out : List ℕ) (r : MessageAt)
     → ((a e : ℕ) → r ≡ At a e → idParts Groups (between s a e) ≡ idParts Plain (between s a e))
     → (answerAt Groups pre s out r ≡ answerAt Plain pre s out r)

@@ -16,7 +16,8 @@ use Rattle.schema.specs.AcceptLaws.{is-taken}
 use Rattle.ids.specs.declared.MessageAt.the-variants.{At}
 use Rattle.ids.specs.Ids.{messageAt}
 use Rattle.canon.specs.Canon.{canon, canonBody, signOf}
-use Rattle.canon.specs.Modes.{same-message, same-signed, same-canon, message-accepted}
+use Rattle.ids.specs.Modes.{message-accepted}
+use Rattle.canon.specs.Modes.{same-message, same-signed, same-canon}
 
 body-in : (mode : Mode) (e : Edition) (s : List ℕ) → acceptOf (spoken mode e) s ≡ Fine
     → canonBody (spoken Groups e) s ≡ canonBody (spoken mode e) s

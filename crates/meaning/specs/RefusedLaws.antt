@@ -225,7 +225,6 @@ record Refuses (mode : Mode) (k : Kind) (s : List ℕ) (at : ℕ) (why : WireErr
   is : RefusedAt mode k at (drop at s) path offset why
   told : placedAs (spotOf why) spot ≡ toldAt why offset path
 
-
 text-refuses : (mode : Mode) (k : Kind) (s : List ℕ) (at : ℕ) (f : Field) (n m : ℕ) (why : WireError) (r : Role)
     (x : Spot) → Stood mode s at f → Stands s at f → RoleAt k f ≡ r → IsText r m → f .«wire_type» ≡ 2
     → textCount s f n ≡ count.Refused why → Refuses mode k s at why (orElse (textSpot s f) x)

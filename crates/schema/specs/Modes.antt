@@ -3,10 +3,13 @@
 -- one that it refuses for another reason, the second may find fields after a group.
 use Prim.Native.Nat.{ℕ, zero, suc, _-_, _≤_, _<_}
 use mathlib.Core.Path.{_≡_, refl, sym, ap, ap₂, subst, _∙_}
+use mathlib.Core.Bool.{true, cond}
 use mathlib.Core.List.{List}
 use mathlib.Core.Logic.{_≢_, _↔_}
 use native.Mathlib.Omega.{arith}
 use lib.ListN.{length}
+use lib.Dec.{eqb}
+use borrow.Author.Tests.{eqb-true}
 use Rattle.basis.specs.declared.Mode.{Mode}
 use Rattle.basis.specs.declared.Mode.the-variants.{Plain, Groups}
 use Rattle.basis.specs.declared.Edition.{Edition}
@@ -14,7 +17,7 @@ use Rattle.basis.specs.Dialect.{spoken}
 use Rattle.basis.specs.declared.Spot.{Spot}
 use Rattle.basis.specs.declared.Spot.the-variants.{Nowhere, At}
 use Rattle.basis.specs.Spot.{inside, orElse}
-use Rattle.basis.specs.Cases.{either, clash}
+use Rattle.basis.specs.Cases.{either, clash, both}
 use Rattle.basis.specs.Bytes.{Bytes as AreBytes}
 use Rattle.basis.specs.Lists.{take-bytes, drop-bytes}
 use Rattle.utf8.specs.Utf8.{isUtf8}
@@ -30,7 +33,7 @@ use Rattle.protobuf.specs.Told.{refusalNumber}
 use Rattle.protobuf.specs.RefusalLaws.{told-place, OfField, low, of-group, field-early}
 use Rattle.protobuf.specs.Field.{readField}
 use Rattle.protobuf.specs.Laws.{field-stands}
-use Rattle.protobuf.specs.Walk.{Fields, end, refused, _then_, onStep, walkAt, fieldsOf, between, valueIn}
+use Rattle.protobuf.specs.Walk.{Fields, end, refused, _then_, onStep, walkAt, fieldsOf, between, isBytes, valueIn}
 use Rattle.protobuf.specs.WalkLaws.{along, walk-step}
 use Rattle.protobuf.specs.ModeLaws.{ByGroup, start as by-start, end as by-end, NoGroup, same-field, never-by-group, same-walk}
 use Rattle.schema.specs.declared.Kind.{Kind}
@@ -42,11 +45,11 @@ use Rattle.schema.specs.declared.Counted.{Counted}
 use Rattle.schema.specs.declared.Counted.the-variants as count
 use Rattle.schema.specs.declared.Tested.{Tested}
 use Rattle.schema.specs.declared.Tested.the-variants as tested
-use Rattle.schema.specs.Schema.{roleOf, rank, ownOf}
+use Rattle.schema.specs.Schema.{rowOf, isVarint, roleOf, rank, ownOf}
 use Rattle.schema.specs.SchemaLaws.{sub-rank}
 use Rattle.schema.specs.Kinds.{by-rank}
 use Rattle.schema.specs.Count.{plus, andThen, textCount, roleCount, countAlong, counted}
-use Rattle.schema.specs.CountLaws.{count-along, plus-refused, then-fits}
+use Rattle.schema.specs.CountLaws.{count-along, plus-fits, plus-refused, then-fits}
 use Rattle.schema.specs.Spots.{textSpot, roleSpot, spotAlong, spotIn}
 use Rattle.schema.specs.SpotsLaws.{spot-along, role-clean}
 use Rattle.schema.specs.Slots.{noSlots, slotsAlong, slotsOf, hasAlong, hasField}
@@ -81,6 +84,26 @@ pub same-has : (k : Kind) (s : List ℕ) (n m : ℕ) → counted Plain k s ≡ c
     → hasField Groups m s ≡ hasField Plain m s
 unfolding hasField
 same-has k s n m h = ap (hasAlong m) (same-fields k s n h)
+
+-- ---- a submessage of a message that is accepted is accepted
+-- how the first mode counts a field of a message
+abbrev pub countAt : Kind → List ℕ → Field → Counted
+countAt k s f = roleCount (counted Plain) s f (RoleAt k f)
+
+sub-role : (k j : Kind) (form : Form) (m : ℕ) (f : Field) → rowOf k m ≡ Sub j form → isBytes m f ≡ true
+    → roleOf k (f .field) (f .«wire_type») ≡ Sub j form
+unfolding roleOf
+sub-role k j form m f h t =
+    let b = both (eqb (f .«wire_type») 2) (eqb (f .field) m) t in
+    rw (eqb-true (f .«wire_type») 2 (b .0), eqb-true (f .field) m (b .1))
+    (ap (λ (r : Role). cond (isVarint r) Skip r) h)
+
+pub sub-accepted : (k j : Kind) (form : Form) (m : ℕ) (s : List ℕ) (f : Field) (x : ℕ) → rowOf k m ≡ Sub j form
+    → isBytes m f ≡ true → countAt k s f ≡ count.Records x → (y : ℕ) × (counted Plain j (valueIn s f) ≡ count.Records y)
+sub-accepted k j form m s f x h t q =
+    let e = subst (λ (r : Role). roleCount (counted Plain) s f r ≡ count.Records x) (sub-role k j form m f h t) q in
+    let p = plus-fits (ownOf j) x (counted Plain j (valueIn s f)) e in
+    (p .0, p .1)
 
 -- ---- what the first mode does not refuse by 5 with type 3 or 4
 -- a message
