@@ -254,7 +254,7 @@ first-early : (mode : Mode) (s : List ℕ) (k : Kind) (f : Field) (w : Fields) (
     → ((j : Kind) (p : List ℕ) → rank j < rank k → counted mode j p ≡ count.Refused why
     → OfBody mode (refusalNumber why))
     → OfBody mode (refusalNumber why)
-first-early mode s k f w why (count.Records n) q g rest ih = rest (plus-early n (countAlong (counted mode) k s w) why g)
+first-early mode s k f w why (count.Records n) q g rest ih = rest (plus-refused n (countAlong (counted mode) k s w) why g)
 first-early mode s k f w why (count.Refused v) q g rest ih =
     let e : v ≡ why = cc in
     role-early mode s f (roleOf k (f .field) (f .«wire_type»)) why (q ∙ ap count.Refused e)

@@ -27,7 +27,7 @@ use Rattle.schema.specs.declared.Slots.{Slots}
 use Rattle.schema.specs.declared.Role.{Role}
 use Rattle.schema.specs.declared.Role.the-variants.{Skip, Number as NumberRole, Text, Bytes, Unsigned, Topic, MessageId}
 use Rattle.schema.specs.declared.Role.the-variants.{Sub}
-use Rattle.schema.specs.Schema.{isVarint, rowOf, lenRole, numberRole, roleOf}
+use Rattle.schema.specs.Schema.{isVarint, rowOf, lenRole, roleOf}
 use Rattle.schema.specs.Count.{FieldWithin}
 use Rattle.schema.specs.Slots.{setNumber, placeOf, roleSlots, withField, slotsAlong}
 use Rattle.rpc.specs.Grammar.{numbersIn, bytesIn, orElse, last, Each, none-left, _and_}

@@ -3,7 +3,7 @@
 -- has the numbers of the fields that enclose the place, the outermost first; the offset counts from the start of the
 -- whole; the reason has the Rust's own numbers, which count from the start of the part that is refused itself. The
 -- places of 14 to 16 are not told. Nothing here speaks of a reader.
-use Prim.Native.Nat.{ℕ, _+_, _*_, _^_, _≤_, _<_}
+use Prim.Native.Nat.{ℕ, _+_, _^_, _≤_, _<_}
 use mathlib.Core.Path.{_≡_}
 use mathlib.Core.List.{List, [], _∷_, _++_}
 use lib.ListN.{length}
@@ -15,7 +15,7 @@ use Rattle.utf8.specs.Grammar.{Utf8}
 use Rattle.peer_id.specs.Uvarint.{uvarint}
 use Rattle.protobuf.specs.declared.WireError.{WireError}
 use Rattle.protobuf.specs.declared.WireError.the-variants.{InvalidUtf8}
-use Rattle.protobuf.specs.Grammar.{Payload, number, eight, bytes, group, four, Entry, Holds, levelsOf, Body}
+use Rattle.protobuf.specs.Grammar.{Payload, number, eight, bytes, group, four, Holds, levelsOf, Body}
 use Rattle.protobuf.specs.Refusal.{spotOf, placedAs}
 use Rattle.protobuf.specs.Encode.{tag, bytesField}
 use Rattle.protobuf.specs.Faults.{Fault}
