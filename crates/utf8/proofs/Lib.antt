@@ -1,2 +1,3 @@
 -- What several of the crate's proofs cite.
+pub mod Leads
 pub mod Leave

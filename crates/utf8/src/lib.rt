@@ -1,5 +1,5 @@
 // UTF-8, as RFC 3629 has it.
-ghost use Prim.Native.Nat.{_+_, _≤_};
+ghost use Prim.Native.Nat.{_+_, _≤_, _<_};
 ghost use mathlib.Core.Path.{_≡_};
 ghost use mathlib.Core.Bool.{true};
 ghost use lib.ListN.{length, drop};
@@ -9,6 +9,62 @@ ghost use Rattle.utf8.specs.Utf8.{leadOf, stepOf, run, isUtf8};
 pub enum State {
     Want { tails: usize, low: u8, high: u8 },
     Bad,
+}
+
+// After the first byte of a character of three bytes.
+fn lead_three(a: u8) -> State
+    requires { ⌜ 0xdf < a ⌝ }
+    requires { ⌜ a ≤ 0xef ⌝ }
+    ensures { λ r. ⌜ r ≡ leadOf a ⌝ }
+{
+    if a == 0xe0 {
+        return State::Want {
+            tails: 2,
+            low: 0xa0,
+            high: 0xbf,
+        };
+    }
+    if a == 0xed {
+        return State::Want {
+            tails: 2,
+            low: 0x80,
+            high: 0x9f,
+        };
+    }
+    State::Want {
+        tails: 2,
+        low: 0x80,
+        high: 0xbf,
+    }
+}
+
+// After a byte above those: the first of a character of four bytes, or of none.
+fn lead_four(a: u8) -> State
+    requires { ⌜ 0xef < a ⌝ }
+    ensures { λ r. ⌜ r ≡ leadOf a ⌝ }
+{
+    if a == 0xf0 {
+        return State::Want {
+            tails: 3,
+            low: 0x90,
+            high: 0xbf,
+        };
+    }
+    if a <= 0xf3 {
+        return State::Want {
+            tails: 3,
+            low: 0x80,
+            high: 0xbf,
+        };
+    }
+    if a == 0xf4 {
+        return State::Want {
+            tails: 3,
+            low: 0x80,
+            high: 0x8f,
+        };
+    }
+    State::Bad
 }
 
 // After the first byte of a character.
@@ -32,49 +88,10 @@ fn lead(a: u8) -> State
             high: 0xbf,
         };
     }
-    if a == 0xe0 {
-        return State::Want {
-            tails: 2,
-            low: 0xa0,
-            high: 0xbf,
-        };
-    }
-    if a == 0xed {
-        return State::Want {
-            tails: 2,
-            low: 0x80,
-            high: 0x9f,
-        };
-    }
     if a <= 0xef {
-        return State::Want {
-            tails: 2,
-            low: 0x80,
-            high: 0xbf,
-        };
+        return lead_three(a);
     }
-    if a == 0xf0 {
-        return State::Want {
-            tails: 3,
-            low: 0x90,
-            high: 0xbf,
-        };
-    }
-    if a <= 0xf3 {
-        return State::Want {
-            tails: 3,
-            low: 0x80,
-            high: 0xbf,
-        };
-    }
-    if a == 0xf4 {
-        return State::Want {
-            tails: 3,
-            low: 0x80,
-            high: 0x8f,
-        };
-    }
-    State::Bad
+    lead_four(a)
 }
 
 fn step(st: State, b: u8) -> State
