@@ -95,12 +95,17 @@ pub refused-body : (pre : List ℕ) (d : Dialect) (s : List ℕ) (i : ℕ) (out 
 unfolding idAnswer idLeft
 refused-body pre d s i out why e = (ap (answerChecked (d .mode) pre s i out) (sym e), ap (leftChecked (d .mode) pre s i out) (sym e))
 
-pub no-message : (pre : List ℕ) (d : Dialect) (s : List ℕ) (i : ℕ) (out : List ℕ) (n : ℕ) → acceptOf d s ≡ Fine → messageAt (d .mode) s i ≡ Count n → (NoMessage n ≡ idAnswer pre d s i out) × (out ≡ idLeft pre d s i out)
+pub no-message : (pre : List ℕ) (d : Dialect) (s : List ℕ) (i : ℕ) (out : List ℕ) (n : ℕ) →
+    acceptOf d s ≡ Fine → messageAt (d .mode) s i ≡ Count n → (NoMessage n ≡ idAnswer pre d s i out) × (out ≡ idLeft pre d s i out)
 unfolding idAnswer idLeft
 no-message pre d s i out n e f =
     (ap (answerAt (d .mode) pre s out) (sym f) ∙ ap (answerChecked (d .mode) pre s i out) (sym e), ap (leftAt (d .mode) pre s out) (sym f) ∙ ap (leftChecked (d .mode) pre s i out) (sym e))
 
-pub at-message : (pre : List ℕ) (d : Dialect) (s : List ℕ) (i : ℕ) (out : List ℕ) (a e : ℕ) (r : MessageBytes) (left : List ℕ) → acceptOf d s ≡ Fine → messageAt (d .mode) s i ≡ At a e → (r ≡ answerId pre (between s a e) out (idParts (d .mode) (between s a e))) × (left ≡ leftId pre (between s a e) out (idParts (d .mode) (between s a e))) → (r ≡ idAnswer pre d s i out) × (left ≡ idLeft pre d s i out)
+pub at-message : (pre : List ℕ) (d : Dialect) (s : List ℕ) (i : ℕ) (out : List ℕ) (a e : ℕ) (r : MessageBytes) (left : List ℕ) →
+    acceptOf d s ≡ Fine → messageAt (d .mode) s i ≡ At a e →
+    (r ≡ answerId pre (between s a e) out (idParts (d .mode) (between s a e)))
+    × (left ≡ leftId pre (between s a e) out (idParts (d .mode) (between s a e))) →
+    (r ≡ idAnswer pre d s i out) × (left ≡ idLeft pre d s i out)
 unfolding idAnswer idLeft
 at-message pre d s i out a e r left x f h =
     (h .0 ∙ ap (answerAt (d .mode) pre s out) (sym f) ∙ ap (answerChecked (d .mode) pre s i out) (sym x), h .1 ∙ ap (leftAt (d .mode) pre s out) (sym f) ∙ ap (leftChecked (d .mode) pre s i out) (sym x))
