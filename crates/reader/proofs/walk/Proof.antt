@@ -71,7 +71,8 @@ module _ {M : Type 1} (𝓤 : URA M) (H : Heap 𝓤) (A : Atoms 𝓤) (mem : Mem
   abbrev ReaderStep : Contract 𝓤
   ReaderStep = tripleOf 𝓤 H A step.signature (step.spec 𝓤 H A mem run)
 
-module _ {M : Type 1} (𝓤 : URA M) (H : Heap 𝓤) (A : Atoms 𝓤) (W : Given 𝓤 H A) (mem : Memory → SProp 𝓤) (run : Routine → Fun 𝓤) (κ : Lft) (q : Share) (m : Mode) (im : Is E.the-row m (EL.vals E.the-type E′.the-laws m)) (s : RefT (List ℕ)) (n : ℕ) (ok : n < 2 ^ 64) where
+module _ {M : Type 1} (𝓤 : URA M) (H : Heap 𝓤) (A : Atoms 𝓤) (W : Given 𝓤 H A) (mem : Memory → SProp 𝓤) (run : Routine → Fun 𝓤) (κ : Lft)
+    (q : Share) (m : Mode) (im : Is E.the-row m (EL.vals E.the-type E′.the-laws m)) (s : RefT (List ℕ)) (n : ℕ) (ok : n < 2 ^ 64) where
   abbrev α : NamedLft
   α = namedLft 1 0 tt (κ, tt)
 
@@ -155,13 +156,19 @@ module _ {M : Type 1} (𝓤 : URA M) (H : Heap 𝓤) (A : Atoms 𝓤) (W : Given
 module _ {M : Type 1} (𝓤 : URA M) (H : Heap 𝓤) (A : Atoms 𝓤) (W : Given 𝓤 H A) (mem : Memory → SProp 𝓤) (run : Routine → Fun 𝓤) where
   walk-walks : (C : Calls 𝓤 H) (Λ : Loops 𝓤 H) → FmC 𝓤 H (W .laws) C → Triple 𝓤 (C #reader·Reader·step) (ReaderStep 𝓤 H A mem run)
       → Walks 𝓤 H A walk.ended stayed (WpFn 𝓤 H C Λ code.function) (walk.clauses 𝓤 H A mem run)
-  walk-walks C Λ fm known = walked 𝓤 H A walk.ended stayed (walk.clauses 𝓤 H A mem run) (WpFn 𝓤 H C Λ code.function) (λ κs. (EL.vals E.the-type E′.the-laws, (slice-vals, (uint-vals w64, tt)))) (λ κs. (EL.tells E.the-type E′.the-laws, (shr-slice-tells (named 0) (κs .0) u8, (uint-tells w64, tt))))
+  walk-walks C Λ fm known = walked 𝓤 H A walk.ended stayed (walk.clauses 𝓤 H A mem run) (WpFn 𝓤 H C Λ code.function)
+      (λ κs. (EL.vals E.the-type E′.the-laws, (slice-vals, (uint-vals w64, tt))))
+      (λ κs. (EL.tells E.the-type E′.the-laws, (shr-slice-tells (named 0) (κs .0) u8, (uint-tells w64, tt))))
       (λ κs qs bounds a g are. via 𝓤 _ (fst∗ 𝓤 _ (emp 𝓤)) (goes 𝓤 H A W mem run (κs .0) (qs .0) (a .0) (are .0) (a .1 .0) (a .1 .1 .0) (are .1 .1 .0 .1) C Λ fm known (are .1 .0)))
 
 walk-goes : {M : Type 1} (𝓤 : URA M) (H : Heap 𝓤) (A : Atoms 𝓤) (W : Given 𝓤 H A) (mem : Memory → SProp 𝓤) (run : Routine → Fun 𝓤) (𝓣 : Tables 𝓤 H)
     → Triple 𝓤 (𝓣 .C #reader·Reader·step) (ReaderStep 𝓤 H A mem run)
     → Meets 𝓤 H A walk.signature (WpFn 𝓤 H (𝓣 .C) (𝓣 .Λ) code.function) (walk.spec 𝓤 H A mem run)
-walk-goes 𝓤 H A W mem run 𝓣 known = walk-meets 𝓤 H A walk.ended stayed W (goes-none 𝓤 H A W 1 (λ _. E.the-row) yes (λ κs x f. refl), (goes-none-slice 𝓤 H A W 1 (0 ∷ []) tt (plain (λ _. u8)) yes, (goes-none 𝓤 H A W 1 (λ _. usize) yes (λ κs x f. refl), tt))) (walk.clauses 𝓤 H A mem run) (WpFn 𝓤 H (𝓣 .C) (𝓣 .Λ) code.function) (WpFn-mono 𝓤 H (W .laws) 𝓣 code.function)
+walk-goes 𝓤 H A W mem run 𝓣 known = walk-meets 𝓤 H A walk.ended stayed W (
+  goes-none 𝓤 H A W 1 (λ _. E.the-row) yes (λ κs x f. refl),
+  (goes-none-slice 𝓤 H A W 1 (0 ∷ []) tt (plain (λ _. u8)) yes, (goes-none 𝓤 H A W 1 (λ _. usize) yes (λ κs x f. refl), tt)),
+)
+    (walk.clauses 𝓤 H A mem run) (WpFn 𝓤 H (𝓣 .C) (𝓣 .Λ) code.function) (WpFn-mono 𝓤 H (W .laws) 𝓣 code.function)
     (walk-walks 𝓤 H A W mem run (𝓣 .C) (𝓣 .Λ) (fmOf 𝓤 H (W .laws) 𝓣) known)
 
 pub walk-spec : {M : Type 1} → stated.statement M
