@@ -47,7 +47,10 @@ returns c =
     puts-same (a .out .now) (a .at) _ _ _ _ (sym y) (c .before .before .emit-held .ensures)
 
 returns-2 : tie.Need-returns-2
-returns-2 c = let a = c .before .before .before .before .before .before .args in field-none (a .n) (a .f) (heldPart Groups (canon Groups) (a .m) (valueIn (a .body .now) (a .f)) (heldOf (rowOf (a .kind) (a .m)))) (a .out .now) (a .at) (field-other (a .n) (a .f) _ (c .before .before .if1 .taken) (c .if2 .left))
+returns-2 c =
+    let a = c .before .before .before .before .before .before .args in
+    field-none (a .n) (a .f) (heldPart Groups (canon Groups) (a .m) (valueIn (a .body .now) (a .f)) (heldOf (rowOf (a .kind) (a .m))))
+    (a .out .now) (a .at) (field-other (a .n) (a .f) _ (c .before .before .if1 .taken) (c .if2 .left))
 
 returns-3 : tie.Need-returns-3
 returns-3 c = let a = c .before .before .before .before .args in field-none (a .n) (a .f) (heldPart Groups (canon Groups) (a .m) (valueIn (a .body .now) (a .f)) (heldOf (rowOf (a .kind) (a .m)))) (a .out .now) (a .at) (field-no (a .n) (a .f) _ (c .if1 .left))

@@ -26,7 +26,10 @@ same-length c = search needs
 
 returns : tie.Need-returns
 unfolding tag
-returns c = let a = c .before .before .before .before .before .before .before .before .before .args in puts-append (a .out .now) _ _ (a .at) _ _ (uvarint (a .n * 8 + 2)) (uvarint (a .len)) (c .before .before .before .before .before .before .emit-varint .ensures) (c .before .before .emit-varint2 .ensures)
+returns c =
+    let a = c .before .before .before .before .before .before .before .before .before .args in
+    puts-append (a .out .now) _ _ (a .at) _ _ (uvarint (a .n * 8 + 2)) (uvarint (a .len))
+    (c .before .before .before .before .before .before .emit-varint .ensures) (c .before .before .emit-varint2 .ensures)
 
 pub emit-head-spec : {M : Type 1} → statement M
 emit-head-spec =

@@ -42,10 +42,18 @@ loop-less c = let m = few-rows (c .before .before .before .before .before .befor
 
 loop-again : tie.Need-loop-again Inv-loop μ-loop
 loop-again c =
-    let a = c .before .before .before .before .before .before .before .before .before .args in
+    let loop-test = c .before .before .before .before .loop-test in
     let l = c .before .before .before .before .before .loop in
-    let k = l .inv .3 in
-    (omega arith, omega (arith, c .before .before .before .before .loop-test .taken), going-part _ _ _ _ _ _ (l .inv .2) (entriesOf Groups (a .kind) (a .n) (a .body .now) (l .m)) _ (order-step (entriesOf Groups (a .kind) (a .n) (a .body .now)) (l .m) _ (c .before .before .before .before .loop-test .taken)) _ _ (c .before .before .emit-entries .ensures), omega arith)
+    let a = c .before .before .before .before .before .before .before .before .before .args in
+    let k = l .inv .3 in (
+      omega arith,
+      omega (arith, loop-test .taken),
+      going-part _ _ _ _ _ _ (l .inv .2)
+          (entriesOf Groups (a .kind) (a .n) (a .body .now) (l .m)) _
+          (order-step (entriesOf Groups (a .kind) (a .n) (a .body .now)) (l .m) _ (loop-test .taken)) _ _
+          (c .before .before .emit-entries .ensures),
+      omega arith,
+    )
 
 same-length : tie.Need-same-length Inv-loop μ-loop
 same-length c = let k = c .before .loop .inv .3 in omega arith
