@@ -75,11 +75,14 @@ same-length c = search needs
 
 returns-3 : tie.Need-returns-3
 returns-3 c =
-    let a = c .before .before .before .before .before .before .before .before .before .before .before .before .before .before .before .before .args in
-    let r = serves-done (a .self) (a .seen-store .now) (a .cache-store .now) (a .edition) (a .body .now) (a .unwanted
-    .now) (a .out .now) _
-    (c .before .before .before .before .before .before .before .before .before .before .lent .ensures) (c .before .before .before .before .before .before .before .before .enum-told .given .1) (c .before .before .before .before .before .before .before .mode-of .ensures) _ (c .before .before .before .before .before .before .accept .ensures) (c .before .before .before .before .enum-told2 .given .1) _ _ (c .before .before .serve-taken
-    .ensures) in
+    let mode-of = c .before .before .before .before .before .before .before .mode-of in
+    let enum-told = c .before .before .before .before .before .before .before .before .enum-told in
+    let lent = c .before .before .before .before .before .before .before .before .before .before .lent in
+    let b = c .before .before .before .before .before .before .before .before .before .before in
+    let a = b .before .before .before .before .before .before .args in
+    let r = serves-done (a .self) (a .seen-store .now) (a .cache-store .now) (a .edition) (a .body .now) (a .unwanted .now) (a .out .now) _
+    (lent .ensures) (enum-told .given .1) (mode-of .ensures) _ (c .before .before .before .before .before .before .accept .ensures)
+    (c .before .before .before .before .enum-told2 .given .1) _ _ (c .before .before .serve-taken .ensures) in
     record { answer = r .0; node = refl; buffer = r .1 }
 
 pub serve-spec : {M : Type 1} → statement M

@@ -132,7 +132,14 @@ field-at-returns t c = let a = c .before .before .before .before .before .before
 field-at-returns-2 :
     (t : ℕ) →
     field-at-lts.Need-returns-2 (parts-at-below t, parts-at.Post) (field-at-at t) field-at.Post
-field-at-returns-2 t c = let a = c .before .before .before .before .before .before .before .before .args in (none-more (a .body .now) (a .table .now) (a .n) _ (field-other (a .mode) (a .path .now) (between (a .body .now) (a .start) (a .end)) (a .f) (c .before .before .before .if1 .taken) (c .if2 .left)), (c .before .before .before .before .before .before .before .before .pre .1 .1 .1 .0))
+field-at-returns-2 t c =
+    let a = c .before .before .before .before .before .before .before .before .args in
+    let pre = c .before .before .before .before .before .before .before .before .pre in (
+      none-more (a .body .now) (a .table .now) (a .n) _
+          (field-other (a .mode) (a .path .now) (between (a .body .now) (a .start) (a .end)) (a .f) (c .before .before .before .if1 .taken)
+          (c .if2 .left)),
+      (pre .1 .1 .1 .0),
+    )
 
 field-at-returns-3 :
     (t : ℕ) →
@@ -184,7 +191,12 @@ parts-at-same-length-2 : (t : ℕ) → parts-at-lts.Need-same-length-2 (parts-at
 parts-at-same-length-2 t c = c .before .before .before .before .before .loop .inv .1
 
 parts-at-returns-2 : (t : ℕ) → parts-at-lts.Need-returns-2 (parts-at-claims t) (parts-at-at t) parts-at.Post parts-at-Inv-loop parts-at-μ-loop
-parts-at-returns-2 t c = let a = c .before .before .before .before .before .before .before .before .before .before .args in let l = c .before .before .before .before .before .loop in walked-done (a .mode) _ _ _ _ _ _ _ _ _ (l .inv .0) (path-end (a .mode) (a .path .now) (between (a .body .now) (a .start) (a .end)) (l .at) (sym (c .enum-told .given .1) ∙ (c .before .before .read-field .ensures)))
+parts-at-returns-2 t c =
+    let l = c .before .before .before .before .before .loop in
+    let a = c .before .before .before .before .before .before .before .before .before .before .args in
+    walked-done (a .mode) _ _ _ _ _ _ _ _ _ (l .inv .0)
+    (path-end (a .mode) (a .path .now) (between (a .body .now) (a .start) (a .end)) (l .at)
+    (sym (c .enum-told .given .1) ∙ (c .before .before .read-field .ensures)))
 
 parts-at-enum-told-2 : (t : ℕ) → parts-at-lts.Need-enum-told-2 (parts-at-claims t) (parts-at-at t) parts-at.Post parts-at-Inv-loop parts-at-μ-loop
 parts-at-enum-told-2 t c = search needs
@@ -193,7 +205,12 @@ parts-at-same-length-3 : (t : ℕ) → parts-at-lts.Need-same-length-3 (parts-at
 parts-at-same-length-3 t c = c .before .before .before .before .before .loop .inv .1
 
 parts-at-returns-3 : (t : ℕ) → parts-at-lts.Need-returns-3 (parts-at-claims t) (parts-at-at t) parts-at.Post parts-at-Inv-loop parts-at-μ-loop
-parts-at-returns-3 t c = let a = c .before .before .before .before .before .before .before .before .before .before .args in let l = c .before .before .before .before .before .loop in walked-done (a .mode) _ _ _ _ _ _ _ _ _ (l .inv .0) (path-refused (a .mode) (a .path .now) (between (a .body .now) (a .start) (a .end)) (l .at) _ (sym (c .enum-told2 .given .1) ∙ (c .before .before .read-field .ensures)))
+parts-at-returns-3 t c =
+    let l = c .before .before .before .before .before .loop in
+    let a = c .before .before .before .before .before .before .before .before .before .before .args in
+    walked-done (a .mode) _ _ _ _ _ _ _ _ _ (l .inv .0)
+    (path-refused (a .mode) (a .path .now) (between (a .body .now) (a .start) (a .end)) (l .at) _
+    (sym (c .enum-told2 .given .1) ∙ (c .before .before .read-field .ensures)))
 
 parts-at-enum-known-step : (t : ℕ) → parts-at-lts.Need-enum-known-step (parts-at-claims t) (parts-at-at t) parts-at.Post parts-at-Inv-loop parts-at-μ-loop
 parts-at-enum-known-step t c = search needs
