@@ -34,13 +34,19 @@ enum-told : tie.Need-enum-told Inv-loop μ-loop
 enum-told c = search needs
 
 returns : tie.Need-returns Inv-loop μ-loop
-returns c = let l = c .before .before .before .before .loop in sym (l .inv .2 ∙ found-end (c .before .before .before .before .before .before .args .mode) _ _ _ _ (sym (c .enum-told .given .1) ∙ c .before .before .read-field .ensures))
+returns c =
+    let l = c .before .before .before .before .loop in
+    let a = c .before .before .before .before .before .before .args in
+    sym (l .inv .2 ∙ found-end (a .mode) _ _ _ _ (sym (c .enum-told .given .1) ∙ c .before .before .read-field .ensures))
 
 enum-told-2 : tie.Need-enum-told-2 Inv-loop μ-loop
 enum-told-2 c = search needs
 
 returns-2 : tie.Need-returns-2 Inv-loop μ-loop
-returns-2 c = let l = c .before .before .before .before .loop in sym (l .inv .2 ∙ found-refused (c .before .before .before .before .before .before .args .mode) _ _ _ _ _ (sym (c .enum-told2 .given .1) ∙ c .before .before .read-field .ensures))
+returns-2 c =
+    let l = c .before .before .before .before .loop in
+    let a = c .before .before .before .before .before .before .args in
+    sym (l .inv .2 ∙ found-refused (a .mode) _ _ _ _ _ (sym (c .enum-told2 .given .1) ∙ c .before .before .read-field .ensures))
 
 enum-known-step : tie.Need-enum-known-step Inv-loop μ-loop
 enum-known-step c = search needs
@@ -61,11 +67,13 @@ messages-after-requires c κs = omega arith
 
 loop-less : tie.Need-loop-less Inv-loop μ-loop
 loop-less c =
+    let step = c .before .before .before .before .step in
+    let l = c .before .before .before .before .before .before .before .before .loop in
+    let a = c .before .before .before .before .before .before .before .before .before .before .args in
     omega (
       arith,
-      field-stands (c .before .before .before .before .before .before .before .before .before .before .args .mode) (c .before .before .before .before .before .before .before .before .before .before .args .body .now)
-          (c .before .before .before .before .before .before .before .before .loop .at) (c .before .before .before .before .step .given .0 .0)
-          (sym (c .before .before .before .before .step .given .1) ∙ c .before .before .before .before .before .before .read-field .ensures),
+      field-stands (a .mode) (a .body .now) (l .at) (step .given .0 .0)
+          (sym (step .given .1) ∙ c .before .before .before .before .before .before .read-field .ensures),
     )
 
 loop-again : tie.Need-loop-again Inv-loop μ-loop

@@ -35,13 +35,20 @@ enum-known-id-2 : tie.Need-enum-known-id-2
 enum-known-id-2 c = search needs
 
 sub-total : tie.Need-sub-total
-sub-total c = id-fits (c .before .before .before .before .before .before .before .args .mode) (c .before .before .before .before .before .before .before .args .part .now) _ _ _ _ (sym (c .before .before .before .id-parts .ensures) ∙ c .before .id2 .given .1) .from .0
+sub-total c =
+    let a = c .before .before .before .before .before .before .before .args in
+    id-fits (a .mode) (a .part .now) _ _ _ _ (sym (c .before .before .before .id-parts .ensures) ∙ c .before .id2 .given .1) .from .0
 
 add-total : tie.Need-add-total
-add-total c = let h = id-fits (c .before .before .before .before .before .before .before .args .mode) (c .before .before .before .before .before .before .before .args .part .now) _ _ _ _ (sym (c .before .before .before .id-parts .ensures) ∙ c .before .id2 .given .1) in omega (arith, h .from-short)
+add-total c =
+    let a = c .before .before .before .before .before .before .before .args in
+    let h = id-fits (a .mode) (a .part .now) _ _ _ _ (sym (c .before .before .before .id-parts .ensures) ∙ c .before .id2 .given .1) in
+    omega (arith, h .from-short)
 
 sub-total-2 : tie.Need-sub-total-2
-sub-total-2 c = id-fits (c .before .before .before .before .before .before .before .args .mode) (c .before .before .before .before .before .before .before .args .part .now) _ _ _ _ (sym (c .before .before .before .id-parts .ensures) ∙ c .before .id2 .given .1) .seqno .0
+sub-total-2 c =
+    let a = c .before .before .before .before .before .before .before .args in
+    id-fits (a .mode) (a .part .now) _ _ _ _ (sym (c .before .before .before .id-parts .ensures) ∙ c .before .id2 .given .1) .seqno .0
 
 add-total-2 : tie.Need-add-total-2
 add-total-2 c =
