@@ -6,11 +6,15 @@ use Rattle.admission.proofs.limits.Reads as reads
 use Rattle.admission.proofs.limits.Lts as lts
 
 returns : tie.Need-returns
-returns c = limit-none (c .before .before .args .mode) _ _ _ _ (counts (c .before .before .args .mode) _ (c .before .before .pre)) (longs (c .before .before .args .mode) _ (c .before .before .pre)) (c .if1 .taken)
+returns c =
+    let a = c .before .before .args in
+    limit-none (a .mode) _ _ _ _ (counts (a .mode) _ (c .before .before .pre)) (longs (a .mode) _ (c .before .before .pre)) (c .if1 .taken)
 
 returns-2 : tie.Need-returns-2
-returns-2 c = limit-many (c .before .before .before .before .args .mode) _ _ _ _ (counts (c .before .before .before .before .args .mode) _ (c .before .before .before .before .pre)) (longs (c .before .before .before .before .args .mode) _ (c .before .before .before .before .pre)) (c .before
-    .before .if1 .left) (c .if2 .taken)
+returns-2 c =
+    let a = c .before .before .before .before .args in
+    let pre = c .before .before .before .before .pre in
+    limit-many (a .mode) _ _ _ _ (counts (a .mode) _ pre) (longs (a .mode) _ pre) (c .before .before .if1 .left) (c .if2 .taken)
 
 returns-3 : tie.Need-returns-3
 returns-3 c =

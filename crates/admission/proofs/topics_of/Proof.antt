@@ -88,9 +88,11 @@ enum-known-step : tie.Need-enum-known-step Inv-loop μ-loop
 enum-known-step c = search needs
 
 sub-len : tie.Need-sub-len Inv-loop μ-loop
-sub-len c = (field-stands (c .before .before .before .before .before .before .before .before .before .before .args .mode) (c .before .before .before .before .before .before .before .before .before .before .args .part .now) (c .before .before
-    .before .before .before .before .loop .at) _ (sym (c .before .before .step .given .1) ∙ (c .before .before .before .before .read-field .ensures)))
-    .ends
+sub-len c =
+    let l = c .before .before .before .before .before .before .loop in
+    let a = c .before .before .before .before .before .before .before .before .before .before .args in
+    (field-stands (a .mode) (a .part .now) (l .at) _
+    (sym (c .before .before .step .given .1) ∙ (c .before .before .before .before .read-field .ensures))) .ends
 
 is-topic-requires : tie.Need-is-topic-requires Inv-loop μ-loop
 is-topic-requires c κs = search needs
@@ -151,11 +153,13 @@ same-length-6 : tie.Need-same-length-6 Inv-loop μ-loop
 same-length-6 c = search needs
 
 returns-3 : tie.Need-returns-3 Inv-loop μ-loop
-returns-3 c = record {
-  topics = topics-done (c .before .before .before .before .before .args .mode) _ _ _ _ (topics-past (c .before .before .before .before .before .args .mode) _ _ (c .loop-test .left)) (c .before .loop .inv .2) (c .before .loop .inv .3);
-  starts = note-done (λ (s : Span). s .start) _ _ _ _ (places-past (c .before .before .before .before .before .args .mode) _ _ (c .loop-test .left)) (c .before .loop .inv .4);
-  sizes = note-done (λ (s : Span). s .size) _ _ _ _ (places-past (c .before .before .before .before .before .args .mode) _ _ (c .loop-test .left)) (c .before .loop .inv .5);
-}
+returns-3 c =
+    let a = c .before .before .before .before .before .args in
+    record {
+      topics = topics-done (a .mode) _ _ _ _ (topics-past (a .mode) _ _ (c .loop-test .left)) (c .before .loop .inv .2) (c .before .loop .inv .3);
+      starts = note-done (λ (s : Span). s .start) _ _ _ _ (places-past (a .mode) _ _ (c .loop-test .left)) (c .before .loop .inv .4);
+      sizes = note-done (λ (s : Span). s .size) _ _ _ _ (places-past (a .mode) _ _ (c .loop-test .left)) (c .before .loop .inv .5);
+    }
 
 pub topics-of-spec : {M : Type 1} → statement M
 topics-of-spec =

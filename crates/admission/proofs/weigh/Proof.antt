@@ -94,10 +94,14 @@ returns-2 c =
     ∙ admit-on _ _ _ _ _ _ slots (told .before .before .id-of .ensures) (told .id2 .given .1)
 
 returns-3 : tie.Need-returns-3
-returns-3 c = admit-on _ _ _ _ _ _ (rw (c .before .before .before .before .mode-of .ensures) at (c .before .before .before .slots-of .ensures)) (c .before .before .id-of .ensures) (c .enum-told .given .1)
+returns-3 c =
+    admit-on _ _ _ _ _ _ (rw (c .before .before .before .before .mode-of .ensures) at (c .before .before .before .slots-of .ensures))
+    (c .before .before .id-of .ensures) (c .enum-told .given .1)
 
 returns-4 : tie.Need-returns-4
-returns-4 c = admit-on _ _ _ _ _ _ (rw (c .before .before .before .before .before .mode-of .ensures) at (c .before .before .before .before .slots-of .ensures)) (c .before .before .before .id-of .ensures) (c .before .id .given .1)
+returns-4 c =
+    admit-on _ _ _ _ _ _ (rw (c .before .before .before .before .before .mode-of .ensures) at
+    (c .before .before .before .before .slots-of .ensures)) (c .before .before .before .id-of .ensures) (c .before .id .given .1)
 
 returns-5 : tie.Need-returns-5
 returns-5 c =
