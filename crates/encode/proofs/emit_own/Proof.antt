@@ -53,7 +53,10 @@ enum-told-5 c = search needs
 
 returns : tie.Need-returns
 unfolding ownPart
-returns c = let a = c .before .before .before .before .args in puts-same (a .out .now) (a .at) _ _ _ _ (sym (ap (ownPart (a .slots) (a .n) (a .input .now)) (c .enum-told .given .1))) (puts-none (a .out .now) (a .at))
+returns c =
+    let a = c .before .before .before .before .args in
+    puts-same (a .out .now) (a .at) _ _ _ _ (sym (ap (ownPart (a .slots) (a .n) (a .input .now)) (c .enum-told .given .1)))
+    (puts-none (a .out .now) (a .at))
 
 same-length : tie.Need-same-length
 same-length c = search needs
@@ -71,7 +74,10 @@ same-length-2 c = search needs
 
 returns-3 : tie.Need-returns-3
 unfolding ownPart
-returns-3 c = let a = c .before .before .before .before .before .before .before .before .before .args in puts-same (a .out .now) (a .at) _ _ _ _ (sym (ap (ownPart (a .slots) (a .n) (a .input .now)) (c .before .before .before .before .before .role2 .given .1))) (c .before .before .emit-slot .ensures)
+returns-3 c =
+    let a = c .before .before .before .before .before .before .before .before .before .args in
+    puts-same (a .out .now) (a .at) _ _ _ _ (sym (ap (ownPart (a .slots) (a .n) (a .input .now))
+    (c .before .before .before .before .before .role2 .given .1))) (c .before .before .emit-slot .ensures)
 
 same-length-3 : tie.Need-same-length-3
 same-length-3 c = search needs
@@ -86,19 +92,31 @@ returns-4 c =
 
 returns-5 : tie.Need-returns-5
 unfolding ownPart
-returns-5 c = let a = c .before .before .before .before .args in puts-same (a .out .now) (a .at) _ _ _ _ (sym (ap (ownPart (a .slots) (a .n) (a .input .now)) (c .enum-told2 .given .1))) (puts-none (a .out .now) (a .at))
+returns-5 c =
+    let a = c .before .before .before .before .args in
+    puts-same (a .out .now) (a .at) _ _ _ _ (sym (ap (ownPart (a .slots) (a .n) (a .input .now)) (c .enum-told2 .given .1)))
+    (puts-none (a .out .now) (a .at))
 
 returns-6 : tie.Need-returns-6
 unfolding ownPart
-returns-6 c = let a = c .before .before .before .before .args in puts-same (a .out .now) (a .at) _ _ _ _ (sym (ap (ownPart (a .slots) (a .n) (a .input .now)) (c .enum-told3 .given .1))) (puts-none (a .out .now) (a .at))
+returns-6 c =
+    let a = c .before .before .before .before .args in
+    puts-same (a .out .now) (a .at) _ _ _ _ (sym (ap (ownPart (a .slots) (a .n) (a .input .now)) (c .enum-told3 .given .1)))
+    (puts-none (a .out .now) (a .at))
 
 returns-7 : tie.Need-returns-7
 unfolding ownPart
-returns-7 c = let a = c .before .before .before .before .args in puts-same (a .out .now) (a .at) _ _ _ _ (sym (ap (ownPart (a .slots) (a .n) (a .input .now)) (c .enum-told4 .given .1))) (puts-none (a .out .now) (a .at))
+returns-7 c =
+    let a = c .before .before .before .before .args in
+    puts-same (a .out .now) (a .at) _ _ _ _ (sym (ap (ownPart (a .slots) (a .n) (a .input .now)) (c .enum-told4 .given .1)))
+    (puts-none (a .out .now) (a .at))
 
 returns-8 : tie.Need-returns-8
 unfolding ownPart
-returns-8 c = let a = c .before .before .before .before .args in puts-same (a .out .now) (a .at) _ _ _ _ (sym (ap (ownPart (a .slots) (a .n) (a .input .now)) (c .enum-told5 .given .1))) (puts-none (a .out .now) (a .at))
+returns-8 c =
+    let a = c .before .before .before .before .args in
+    puts-same (a .out .now) (a .at) _ _ _ _ (sym (ap (ownPart (a .slots) (a .n) (a .input .now)) (c .enum-told5 .given .1)))
+    (puts-none (a .out .now) (a .at))
 
 pub emit-own-spec : {M : Type 1} → statement M
 emit-own-spec =

@@ -48,7 +48,10 @@ emit-control-requires c κs =
 
 returns : tie.Need-returns
 unfolding bodyPart
-returns c = let a = c .before .before .before .before .args in puts-same (a .out .now) (a .at) _ _ _ _ (sym (ap (bodyPart Groups (a .body .now) (a .n)) (c .enum-told .given .1))) (puts-none (a .out .now) (a .at))
+returns c =
+    let a = c .before .before .before .before .args in
+    puts-same (a .out .now) (a .at) _ _ _ _ (sym (ap (bodyPart Groups (a .body .now) (a .n)) (c .enum-told .given .1)))
+    (puts-none (a .out .now) (a .at))
 
 same-length : tie.Need-same-length
 same-length c = search needs
@@ -77,7 +80,10 @@ same-length-3 c = search needs
 
 returns-4 : tie.Need-returns-4
 unfolding bodyPart
-returns-4 c = let a = c .before .before .before .before .before .before .before .before .before .args in puts-same (a .out .now) (a .at) _ _ _ _ (sym (ap (bodyPart Groups (a .body .now) (a .n)) (c .before .before .before .before .before .held .given .1))) (c .before .before .emit-control .ensures)
+returns-4 c =
+    let a = c .before .before .before .before .before .before .before .before .before .args in
+    puts-same (a .out .now) (a .at) _ _ _ _ (sym (ap (bodyPart Groups (a .body .now) (a .n))
+    (c .before .before .before .before .before .held .given .1))) (c .before .before .emit-control .ensures)
 
 pub emit-top-spec : {M : Type 1} → statement M
 emit-top-spec =

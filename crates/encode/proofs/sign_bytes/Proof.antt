@@ -62,7 +62,9 @@ sign-part-requires c κs =
     )
 
 returns : tie.Need-returns
-returns c = let a = c .before .before .before .before .before .before .args in sign-refused (a .dialect) (a .body .now) (a .index) (a .out .now) _ (sym (c .before .before .before .accept .ensures) ∙ c .before .c .given .1)
+returns c =
+    let a = c .before .before .before .before .before .before .args in
+    sign-refused (a .dialect) (a .body .now) (a .index) (a .out .now) _ (sym (c .before .before .before .accept .ensures) ∙ c .before .c .given .1)
 
 returns-2 : tie.Need-returns-2
 returns-2 c =
