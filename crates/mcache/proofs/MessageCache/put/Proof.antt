@@ -95,9 +95,13 @@ same-length-3 : tie.Need-same-length-3
 same-length-3 c = search needs
 
 returns-3 : tie.Need-returns-3
-returns-3 c = let a = c .before .before .before .before .before .before .before .before .before .before .before .args in
-    put-done _ _ _ _ _ _ _ (puts-no (a .self) (now (a .store)) _ _ (plan-refused (a .self) (now (a .store)) (a .edition) (now (a .body)) (a .index) _
-    (sym (c .before .before .before .before .before .enum-told3 .given .1) ∙ (c .before .before .before .before .before .before .before .lent .ensures)) (c .before .before .before .before .mode-of .ensures) (sym (c .before .c .given .1) ∙ (c .before .before .before .accept .ensures))))
+returns-3 c =
+    let lent = c .before .before .before .before .before .before .before .lent in
+    let a = c .before .before .before .before .before .before .before .before .before .before .before .args in
+    put-done _ _ _ _ _ _ _ (puts-no (a .self) (now (a .store)) _ _
+    (plan-refused (a .self) (now (a .store)) (a .edition) (now (a .body)) (a .index) _
+    (sym (c .before .before .before .before .before .enum-told3 .given .1) ∙ (lent .ensures))
+    (c .before .before .before .before .mode-of .ensures) (sym (c .before .c .given .1) ∙ (c .before .before .before .accept .ensures))))
 
 same-length-4 : tie.Need-same-length-4
 same-length-4 c = search needs
