@@ -44,28 +44,35 @@ slice-aggregate-not-declined-2 c = search needs
 
 not-declined-requires : tie.Need-not-declined-requires
 not-declined-requires c κs =
-    let s = c .before .before .before .before .before .before .before .before .before .before .before .before .before .before .before in
-    let m = c .before .before .before .before .before .before .before .parts-at .ensures .1 .room in
-    let n = c .before .before .before .first-mentions .ensures .1 .1 in
-    (c .before .before .before .first-mentions .ensures .1 .0, (omega arith, few-as (sym (c .before .before .before .before .before .before .before .before .before .before .mode-of .ensures)) _ (s .args .unwanted .now) (s .pre .1 .1)))
+    let first-mentions = c .before .before .before .first-mentions in
+    let parts-at = c .before .before .before .before .before .before .before .parts-at in
+    let mode-of = c .before .before .before .before .before .before .before .before .before .before .mode-of in
+    let b = c .before .before .before .before .before .before .before .before .before .before in
+    let s = b .before .before .before .before .before in
+    let m = parts-at .ensures .1 .room in
+    let n = first-mentions .ensures .1 .1 in
+    (first-mentions .ensures .1 .0, (omega arith, few-as (sym (mode-of .ensures)) _ (s .args .unwanted .now) (s .pre .1 .1)))
 
 ring-requires : tie.Need-ring-requires
 ring-requires c κs = search needs
 
 slice-aggregate-cached : tie.Need-slice-aggregate-cached
 slice-aggregate-cached c =
-    let s = c .before .before .before .before .before .before .before .before .before .before .before .before .before .before .before .before .before .before .before .before .before .before .before in sym (length-unmapped ℕ (s .args .self
-    .cache .len) 64 (s .good .0 .1 .1 .1 .1 .1 .1 .0 .1 .1 .1 .1 .1 .1 .1 .1 .1 .0 .1 .0 .1))
+    let b = c .before .before .before .before .before .before .before .before .before .before in
+    let s = b .before .before .before .before .before .before .before .before .before .before .before .before .before in
+    sym (length-unmapped ℕ (s .args .self .cache .len) 64 (s .good .0 .1 .1 .1 .1 .1 .1 .0 .1 .1 .1 .1 .1 .1 .1 .1 .1 .0 .1 .0 .1))
 
 slice-aggregate-cached-2 : tie.Need-slice-aggregate-cached-2
 slice-aggregate-cached-2 c =
-    let s = c .before .before .before .before .before .before .before .before .before .before .before .before .before .before .before .before .before .before .before .before .before .before .before .before in sym (length-unmapped ℕ (s .args
-    .self .cache .«id_len») 64 (s .good .0 .1 .1 .1 .1 .1 .1 .0 .1 .1 .1 .1 .1 .1 .1 .1 .1 .1 .0 .1 .0 .1))
+    let b = c .before .before .before .before .before .before .before .before .before .before in
+    let s = b .before .before .before .before .before .before .before .before .before .before .before .before .before .before in
+    sym (length-unmapped ℕ (s .args .self .cache .«id_len») 64 (s .good .0 .1 .1 .1 .1 .1 .1 .0 .1 .1 .1 .1 .1 .1 .1 .1 .1 .1 .0 .1 .0 .1))
 
 slice-aggregate-cached-3 : tie.Need-slice-aggregate-cached-3
 slice-aggregate-cached-3 c =
-    let s = c .before .before .before .before .before .before .before .before .before .before .before .before .before .before .before .before .before .before .before .before .before .before .before .before .before in sym (length-unmapped ℕ
-    (s .args .self .cache .ids) 8192 (s .good .0 .1 .1 .1 .1 .1 .1 .0 .1 .1 .1 .1 .1 .1 .1 .1 .1 .1 .1 .0 .1 .0 .1))
+    let b = c .before .before .before .before .before .before .before .before .before .before in
+    let s = b .before .before .before .before .before .before .before .before .before .before .before .before .before .before .before in
+    sym (length-unmapped ℕ (s .args .self .cache .ids) 8192 (s .good .0 .1 .1 .1 .1 .1 .1 .0 .1 .1 .1 .1 .1 .1 .1 .1 .1 .1 .1 .0 .1 .0 .1))
 
 slice-aggregate-cached-4 : tie.Need-slice-aggregate-cached-4
 slice-aggregate-cached-4 c = search needs
