@@ -53,9 +53,9 @@ known-requires-2 c κs = first-inside _ _ _ (c .before .before .before .before .
 
 -- from and seqno lie within the message
 inside : (c : tie.Then2) →
-    let b = c .before .before .before in
-    let v = b .id2 .given .0 in
-    Fits (now (b .before .before .before .before .before .before .args .part)) (v .0) (v .1 .0) (v .1 .1 .0) (v .1 .1 .1 .0)
+    Fits (now (c .before .before .before .before .before .before .before .before .before .args .part))
+    (c .before .before .before .id2 .given .0 .0) (c .before .before .before .id2 .given .0 .1 .0)
+    (c .before .before .before .id2 .given .0 .1 .1 .0) (c .before .before .before .id2 .given .0 .1 .1 .1 .0)
 inside c =
     let b = c .before .before .before in
     id-fits _ _ _ _ _ _
