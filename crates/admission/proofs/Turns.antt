@@ -47,7 +47,8 @@ use Rattle.admission.specs.declared.Unfit.the-variants.{TopicCount, Topi
 use Rattle.admission.specs.declared.Topics.{Topics}
 use Rattle.admission.specs.declared.Admission.{Admission}
 use Rattle.admission.specs.declared.Admission.the-variants as admission
-use Rattle.admission.specs.Admission.{topicsAlong, topicsOf, Span, spanOf, placesAlong, topicPlaces, startsOf, sizesOf, spansIn, sameSpans, firstLong, topicsIn, longAfter, onLimits, isRead, isKey, byHash, keyMatches, keyInside, onKey, onSignature, isPeerId, onPeer, partAt, senderOf, onId, admissionOf, idGiven, givesId, keptWith}
+use Rattle.admission.specs.Admission.{topicsAlong, topicsOf, Span, spanOf, placesAlong, topicPlaces, startsOf, sizesOf, spansIn, sameSpans, firstLong}
+use Rattle.admission.specs.Admission.{topicsIn, longAfter, onLimits, isRead, isKey, byHash, keyMatches, keyInside, onKey, onSignature, isPeerId, onPeer, partAt, senderOf, onId, admissionOf, idGiven, givesId, keptWith}
 use Rattle.admission.specs.AdmissionLaws.{sender-is}
 use Rattle.admission.specs.TopicLaws.{gives-few, same-spans-equal, length-spans, spans-put}
 

@@ -46,7 +46,9 @@ sign-missing d s i out n e f =
       lent = ap (signedAt (d .mode) s out) (sym f) ∙ ap (signedChecked (d .mode) s i out) (sym e);
     }
 
-pub sign-found : (d : Dialect) (s : List ℕ) (i : ℕ) (out : List ℕ) (a e : ℕ) (r : MessageBytes) (left : List ℕ) → acceptOf d s ≡ Fine → messageAt (d .mode) s i ≡ At a e → (r ≡ ofWritten (answer (signOf (d .mode) (between s a e)) out)) × (left ≡ written (signOf (d .mode) (between s a e)) out) → Leaves (signAnswer d s i out) (signLeft d s i out) r left
+pub sign-found : (d : Dialect) (s : List ℕ) (i : ℕ) (out : List ℕ) (a e : ℕ) (r : MessageBytes) (left : List ℕ) → acceptOf d s ≡ Fine →
+    messageAt (d .mode) s i ≡ At a e → (r ≡ ofWritten (answer (signOf (d .mode) (between s a e)) out)) ×
+    (left ≡ written (signOf (d .mode) (between s a e)) out) → Leaves (signAnswer d s i out) (signLeft d s i out) r left
 unfolding signAnswer signLeft
 sign-found d s i out a e r left x f h =
     record {

@@ -47,8 +47,10 @@ miss f i n w h =
 pub found-here : (mode : Mode) (s : List ℕ) (at i n : ℕ) (f : Field) → step.At f ≡ readField mode s at → isBytes 2 f && eqb n i ≡ true → messageAlong i n (walkAt mode s at) ≡ At (f .start) (f .next)
 found-here mode s at i n f e h = ap (messageAlong i n) (walk-on mode s at (step.At f) e) ∙ hit f i n (walkAt mode s (f .next)) h
 
-pub found-later : (mode : Mode) (s : List ℕ) (at i n m : ℕ) (f : Field) → step.At f ≡ readField mode s at → isBytes 2 f && eqb n i ≡ false → m ≡ cond (isBytes 2 f) (n + 1) n → messageAlong i n (walkAt mode s at) ≡ messageAlong i m (walkAt mode s (f .next))
-found-later mode s at i n m f e h g = ap (messageAlong i n) (walk-on mode s at (step.At f) e) ∙ miss f i n (walkAt mode s (f .next)) h ∙ ap (λ (x : ℕ). messageAlong i x (walkAt mode s (f .next))) (sym g)
+pub found-later : (mode : Mode) (s : List ℕ) (at i n m : ℕ) (f : Field) → step.At f ≡ readField mode s at → isBytes 2 f && eqb n i ≡ false →
+    m ≡ cond (isBytes 2 f) (n + 1) n → messageAlong i n (walkAt mode s at) ≡ messageAlong i m (walkAt mode s (f .next))
+found-later mode s at i n m f e h g = ap (messageAlong i n) (walk-on mode s at (step.At f) e) ∙ miss f i n (walkAt mode s (f .next)) h ∙ ap
+    (λ (x : ℕ). messageAlong i x (walkAt mode s (f .next))) (sym g)
 
 pub found-end : (mode : Mode) (s : List ℕ) (at i n : ℕ) → step.End ≡ readField mode s at → messageAlong i n (walkAt mode s at) ≡ Count n
 found-end mode s at i n e = ap (messageAlong i n) (walk-on mode s at step.End e)
@@ -66,7 +68,8 @@ id-length pre p a e b f h =
     let y = between-length p b f (h .seqno .1) in
     omega (arith, length-append pre (idBytes p a e b f), length-append (between p a e) (between p b f), x, y)
 
-pub id-short : (pre p out : List ℕ) (a e b f : ℕ) → Fits p a e b f → length out < length pre + (e - a) + (f - b) → (Room (length pre + (e - a) + (f - b)) ≡ ofWritten (answer (pre ++ idBytes p a e b f) out)) × (out ≡ written (pre ++ idBytes p a e b f) out)
+pub id-short : (pre p out : List ℕ) (a e b f : ℕ) → Fits p a e b f → length out < length pre + (e - a) + (f - b) →
+    (Room (length pre + (e - a) + (f - b)) ≡ ofWritten (answer (pre ++ idBytes p a e b f) out)) × (out ≡ written (pre ++ idBytes p a e b f) out)
 id-short pre p out a e b f h l =
     let n = id-length pre p a e b f h in
     let k : length out < length (pre ++ idBytes p a e b f) = omega (arith, n) in
@@ -95,12 +98,20 @@ pub refused-body : (pre : List ℕ) (d : Dialect) (s : List ℕ) (i : ℕ) (out 
 unfolding idAnswer idLeft
 refused-body pre d s i out why e = (ap (answerChecked (d .mode) pre s i out) (sym e), ap (leftChecked (d .mode) pre s i out) (sym e))
 
-pub no-message : (pre : List ℕ) (d : Dialect) (s : List ℕ) (i : ℕ) (out : List ℕ) (n : ℕ) → acceptOf d s ≡ Fine → messageAt (d .mode) s i ≡ Count n → (NoMessage n ≡ idAnswer pre d s i out) × (out ≡ idLeft pre d s i out)
+pub no-message : (pre : List ℕ) (d : Dialect) (s : List ℕ) (i : ℕ) (out : List ℕ) (n : ℕ) →
+    acceptOf d s ≡ Fine → messageAt (d .mode) s i ≡ Count n → (NoMessage n ≡ idAnswer pre d s i out) × (out ≡ idLeft pre d s i out)
 unfolding idAnswer idLeft
 no-message pre d s i out n e f =
     (ap (answerAt (d .mode) pre s out) (sym f) ∙ ap (answerChecked (d .mode) pre s i out) (sym e), ap (leftAt (d .mode) pre s out) (sym f) ∙ ap (leftChecked (d .mode) pre s i out) (sym e))
 
-pub at-message : (pre : List ℕ) (d : Dialect) (s : List ℕ) (i : ℕ) (out : List ℕ) (a e : ℕ) (r : MessageBytes) (left : List ℕ) → acceptOf d s ≡ Fine → messageAt (d .mode) s i ≡ At a e → (r ≡ answerId pre (between s a e) out (idParts (d .mode) (between s a e))) × (left ≡ leftId pre (between s a e) out (idParts (d .mode) (between s a e))) → (r ≡ idAnswer pre d s i out) × (left ≡ idLeft pre d s i out)
+pub at-message : (pre : List ℕ) (d : Dialect) (s : List ℕ) (i : ℕ) (out : List ℕ) (a e : ℕ) (r : MessageBytes) (left : List ℕ) →
+    acceptOf d s ≡ Fine → messageAt (d .mode) s i ≡ At a e →
+    (r ≡ answerId pre (between s a e) out (idParts (d .mode) (between s a e)))
+    × (left ≡ leftId pre (between s a e) out (idParts (d .mode) (between s a e))) →
+    (r ≡ idAnswer pre d s i out) × (left ≡ idLeft pre d s i out)
 unfolding idAnswer idLeft
-at-message pre d s i out a e r left x f h =
-    (h .0 ∙ ap (answerAt (d .mode) pre s out) (sym f) ∙ ap (answerChecked (d .mode) pre s i out) (sym x), h .1 ∙ ap (leftAt (d .mode) pre s out) (sym f) ∙ ap (leftChecked (d .mode) pre s i out) (sym x))
+at-message pre d s i out a e r left x f h = (
+  h .0 ∙ ap (answerAt (d .mode) pre s out) (sym f) ∙ ap (answerChecked (d .mode) pre s i out) (sym x),
+  h .1 ∙ ap
+      (leftAt (d .mode) pre s out) (sym f) ∙ ap (leftChecked (d .mode) pre s i out) (sym x),
+)

@@ -46,7 +46,8 @@ use Rattle.mcache.specs.declared.Gossip.{Gossip}
 use Rattle.mcache.specs.declared.GossipIds.{GossipIds}
 use Rattle.mcache.specs.declared.Gossip.the-variants as gossip
 use Rattle.mcache.specs.State.{messageIn, fallsFrom, runsTo, givesIn, idsFit, rowsFit, legal, wellFormed, Laid, Placed, Usable, messageSize, messageIdSize, maxMessages, maxHistory, idsSize, ringOf, topicsSize, Roomy, tableOf, hasTopic}
-use Rattle.mcache.specs.Calls.{lentOf, indexIn, entered, enteredStore, rowsLie, keepable, planKept, planUnder, keptUnder, storedUnder, shifted, found, gossipList, gossipArray, Plan, no, keep, answered, keptIn, storedIn, planFit, planned, shiftCache, getPart, lookupAnswer, offerAt, offerIn, gossipAnswer, gossipCount, gossipRows}
+use Rattle.mcache.specs.Calls.{lentOf, indexIn, entered, enteredStore, rowsLie, keepable, planKept, planUnder, keptUnder, storedUnder, shifted, found}
+use Rattle.mcache.specs.Calls.{gossipList, gossipArray, Plan, no, keep, answered, keptIn, storedIn, planFit, planned, shiftCache, getPart, lookupAnswer, offerAt, offerIn, gossipAnswer, gossipCount, gossipRows}
 use Rattle.mcache.specs.Unique.{Puts, Keeps, Shifts, Gossips, Forms, WritesId}
 use Rattle.mcache.specs.StateLaws.{lent-kept}
 use Rattle.mcache.specs.GuardLaws.{lie-rows, when-keeps, keep-usable, form-fit}

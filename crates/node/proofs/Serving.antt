@@ -100,7 +100,9 @@ module _ (lens : List ℕ) (ring : Ring) (ilens store s from : List ℕ) (n : �
   pub found-room : (m : ℕ) → i < n → n * 2 ≤ m → length to ≡ m → (k + 1) * 2 ≤ length to
   found-room m h l e = let f = g .fewer in omega arith
 
-  pub found-turn : i < n → Sound 128 ring ilens store → ((j : ℕ) → j < ring .count → getD lens (placeOf ring j) 0 ≤ 4096) → (k + 1) * 2 ≤ length to → (row : ℕ) → row ≡ 0 + indexOf (partAt s from i) (drop 0 held) → (r : ℕ) (after : List ℕ) → Added lens ring row to k r after → Found lens ring held s from n after r (i + 1)
+  pub found-turn : i < n → Sound 128 ring ilens store → ((j : ℕ) → j < ring .count → getD lens (placeOf ring j) 0 ≤ 4096) →
+      (k + 1) * 2 ≤ length to → (row : ℕ) → row ≡ 0 + indexOf (partAt s from i) (drop 0 held) → (r : ℕ) (after : List ℕ) →
+      Added lens ring row to k r after → Found lens ring held s from n after r (i + 1)
   found-turn h ok short room row e r after (er, ea) =
       let f = g .fewer in
       let p = placeOf ring row in

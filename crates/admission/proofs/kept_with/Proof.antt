@@ -39,20 +39,24 @@ topics-of-requires : tie.Need-topics-of-requires
 topics-of-requires c κs = search needs
 
 returns : tie.Need-returns
-returns c = kept-count _ (now (c .before .before .before .before .before .before .before .before .before .before .before .before .before .before .before .args
-    .part)) (now (c .before .before .before .before .before .before .before .before .before .before .before .before .before .before .before .args .id))
-    (spansIn (now (c .before .before .before .before .before .before .before .before .before .before .before .before .before .before .before .args
-    .kept-starts)) (now (c .before .before .before .before .before .before .before .before .before .before .before .before .before .before .before .args
-    .kept-sizes)) (c .before .before .before .before .before .before .before .before .before .before .before .before .before .before .before .args .n)) (λ z.
-    (c .if1 .taken) (counts-places (modeOf (c .before .before .before .before .before .before .before .before .before .before .before .before .before .before .before .args .flags)) (now (c .before .before .before .before .before .before .before .before .before .before .before .before .before .before .before .args .part)) ((rw (c .before .before .before .before .before .before .before .before .before .before .mode-of .ensures) at (c .before .before .before .before .topics-of .ensures)) .topics) ∙ z ∙ length-spans _ _ _))
+returns c =
+    let told = c .before .before .before .before in
+    let moded = told .before .before .before .before .before .before in
+    let a = moded .before .before .before .before .before .args in
+    let found = rw (moded .mode-of .ensures) at (told .topics-of .ensures) in
+    let n-places = counts-places (modeOf (a .flags)) (now (a .part)) (found .topics) in
+    kept-count _ (now (a .part)) (now (a .id)) (spansIn (now (a .kept-starts)) (now (a .kept-sizes)) (a .n))
+    (λ z. (c .if1 .taken) (n-places ∙ z ∙ length-spans _ _ _))
 
 returns-2 : tie.Need-returns-2
-returns-2 c = kept-many _ (now (c .before .before .before .before .before .before .before .before .before .before .before .before .before .before .before .before .args .part)) (now (c .before .before .before .before .before .before .before .before .before .before .before .before .before .before .before .before .args .id)) (spansIn (now (c .before .before .before .before .before .before .before .before .before .before .before .before .before .before .before .before .args .kept-starts)) (now (c .before .before .before .before .before .before .before .before .before .before .before .before .before .before .before .before .args .kept-sizes)) (c .before .before .before .before .before .before .before .before .before .before .before .before .before .before .before .before .args .n)) (omega (
-  arith,
-  counts-places (modeOf (c .before .before .before .before .before .before .before .before .before .before .before .before .before .before .before .before .args .flags)) (now (c .before .before .before .before .before .before .before .before .before .before .before .before .before .before .before .before .args .part)) ((rw (c .before .before .before .before .before .before .before .before .before .before .before .mode-of .ensures) at (c .before .before .before .before .before .topics-of .ensures)) .topics),
-  c .before .if1 .left,
-  c .if2 .taken,
-))
+returns-2 c =
+    let told = c .before .before .before .before .before in
+    let moded = told .before .before .before .before .before .before in
+    let a = moded .before .before .before .before .before .args in
+    let found = rw (moded .mode-of .ensures) at (told .topics-of .ensures) in
+    let n-places = counts-places (modeOf (a .flags)) (now (a .part)) (found .topics) in
+    kept-many _ (now (a .part)) (now (a .id)) (spansIn (now (a .kept-starts)) (now (a .kept-sizes)) (a .n))
+    (omega (arith, n-places, c .before .if1 .left, c .if2 .taken))
 
 slice-aggregate-same-spans : tie.Need-slice-aggregate-same-spans
 slice-aggregate-same-spans c = search needs
@@ -64,24 +68,44 @@ same-spans-requires : tie.Need-same-spans-requires
 same-spans-requires c κs = search needs
 
 names-requires : tie.Need-names-requires
-names-requires c κs = (rw (c .before .before .before .before .before .before .before .before .before .before .before .before .before .before .before .mode-of .ensures) at (c .before .before .before .before .before .before .before .before .before .topics-of .ensures)) .topics
+names-requires c κs =
+    let told = c .before .before .before .before .before .before .before .before .before in
+    let moded = told .before .before .before .before .before .before in
+    (rw (moded .mode-of .ensures) at (told .topics-of .ensures)) .topics
 
 returns-3 : tie.Need-returns-3
-returns-3 c = kept-names _ (now (c .before .before .before .before .before .before .before .before .before .before .before .before .before .before .before .before .before .before .before .before .before .args .part)) (now (c .before .before .before .before .before .before .before .before .before .before .before .before .before .before .before .before .before .before .before .before .before .args .id)) (spansIn (now (c .before .before .before .before .before .before .before .before .before .before .before .before .before .before .before .before .before .before .before .before .before .args
-    .kept-starts)) (now (c .before .before .before .before .before .before .before .before .before .before .before .before .before .before .before .before .before .before .before .before .before .args .kept-sizes)) (c .before .before .before .before .before .before .before .before .before .before .before .before .before .before .before .before .before .before .before .before .before .args .n)) _ _ (sym (read-in _ _ (c .before .before .before .before .before .before .before .before .before .before .before .before .before .before .before .before .mode-of .ensures) (c .before .before .before .before .before .before .before .before .before .before .before .before .before .before .before .count .ensures)) ∙ (c .before .before .before .before .before .before .before .before .before .before .before .before .before .enum-told2 .given .1)) (sym (rw (spans-found (modeOf (c .before .before .before .before .before .before .before .before .before .before .before .before .before .before .before .before .before .before .before .before .before .args .flags)) (now (c .before .before .before .before .before .before .before .before .before .before .before .before .before .before .before .before .before .before .before .before .before .args
-    .part)) _ _ _ _ _ _ (counts-places (modeOf (c .before .before .before .before .before .before .before .before .before .before .before .before .before .before .before .before .before .before .before .before .before .args .flags)) (now (c .before .before .before .before .before .before .before .before .before .before .before .before .before .before .before .before .before .before .before .before .before .args .part)) ((rw (c .before .before .before .before .before .before .before .before .before .before .before .before .before .before .before .before .mode-of .ensures) at (c .before .before .before .before .before .before .before .before .before .before .topics-of .ensures)) .topics)) (c .before .before .before .before .before .before .if1 .left) (c .before .before .before .before .before .if2 .left) refl refl ((rw (c .before .before .before .before .before .before .before .before .before .before .before .before .before .before .before .before .mode-of .ensures) at (c .before .before .before .before .before .before .before .before .before .before .topics-of .ensures)) .starts) ((rw (c .before .before .before .before .before .before .before .before .before .before .before .before .before .before .before .before .mode-of .ensures) at (c .before .before .before .before .before .before .before .before .before .before .topics-of .ensures)) .sizes)) at (c .before .before .same-spans .ensures))
-    ∙ (c .before .if3 .taken)) (c .names .ensures)
+returns-3 c =
+    let told = c .before .before .before .before .before .before .before .before .before .before in
+    let moded = told .before .before .before .before .before .before in
+    let a = moded .before .before .before .before .before .args in
+    let found = rw (moded .mode-of .ensures) at (told .topics-of .ensures) in
+    let n-places = counts-places (modeOf (a .flags)) (now (a .part)) (found .topics) in
+    let read = read-in _ _ (moded .mode-of .ensures) (told .before .before .before .before .before .count .ensures) in
+    let spans = spans-found (modeOf (a .flags)) (now (a .part)) _ _ _ _ _ _ n-places (c .before .before .before .before .before .before .if1 .left)
+    (c .before .before .before .before .before .if2 .left) refl refl (found .starts) (found .sizes) in
+    kept-names _ (now (a .part)) (now (a .id)) (spansIn (now (a .kept-starts)) (now (a .kept-sizes)) (a .n)) _ _
+    (sym read ∙ (told .before .before .before .enum-told2 .given .1))
+    (sym (rw spans at (c .before .before .same-spans .ensures)) ∙ (c .before .if3 .taken))
+    (c .names .ensures)
 
 returns-4 : tie.Need-returns-4
-returns-4 c = kept-not _ (now (c .before .before .before .before .before .before .before .before .args .part)) (now (c .before .before .before .before .before .before .before .before .args .id)) (spansIn (now (c .before .before .before .before .before .before .before .before .args .kept-starts)) (now (c .before .before .before .before .before .before .before .before .args .kept-sizes)) (c .before .before .before .before .before .before .before .before .args .n)) (gives-refused _ _
-    _ _ (sym (read-in _ _ (c .before .before .before .mode-of .ensures) (c .before .before .count .ensures)) ∙ (c .enum-told .given .1)))
+returns-4 c =
+    let a = c .before .before .before .before .before .before .before .before .args in
+    let read = read-in _ _ (c .before .before .before .mode-of .ensures) (c .before .before .count .ensures) in
+    kept-not _ (now (a .part)) (now (a .id)) (spansIn (now (a .kept-starts)) (now (a .kept-sizes)) (a .n))
+    (gives-refused _ _ _ _ (sym read ∙ (c .enum-told .given .1)))
 
 returns-5 : tie.Need-returns-5
 returns-5 c =
-    let found = rw (c .before .before .before .before .before .before .before .before .before .before .before .before .before .before .before .mode-of .ensures) at (c .before .before .before .before .before .before .before .before .before .topics-of .ensures) in
-    kept-other _ (now (c .before .before .before .before .before .before .before .before .before .before .before .before .before .before .before .before .before .before .before .before .args .part)) (now (c .before .before .before .before .before .before .before .before .before .before .before .before .before .before .before .before .before .before .before .before .args .id)) (spansIn (now (c .before .before .before .before .before .before .before .before .before .before .before .before .before .before .before .before .before .before .before .before .args .kept-starts)) (now (c .before .before .before .before .before .before .before .before .before .before .before .before .before .before .before .before .before .before .before .before .args .kept-sizes)) (c .before .before .before .before .before .before .before .before .before .before .before .before .before .before .before .before .before .before .before .before .args .n))
-    (sym (rw (spans-found (modeOf (c .before .before .before .before .before .before .before .before .before .before .before .before .before .before .before .before .before .before .before .before .args .flags)) (now (c .before .before .before .before .before .before .before .before .before .before .before .before .before .before .before .before .before .before .before .before .args .part)) _ _ _ _ _ _ (counts-places (modeOf (c .before .before .before .before .before .before .before .before .before .before .before .before .before .before .before .before .before .before .before .before .args .flags)) (now (c .before .before .before .before .before .before .before .before .before .before .before .before .before .before .before .before .before .before .before .before .args .part)) (found .topics))
-    (c .before .before .before .before .before .if1 .left) (c .before .before .before .before .if2 .left) refl refl (found .starts) (found .sizes)) at (c .before .same-spans .ensures)) ∙ (c .if3 .left))
+    let told = c .before .before .before .before .before .before .before .before .before in
+    let moded = told .before .before .before .before .before .before in
+    let a = moded .before .before .before .before .before .args in
+    let found = rw (moded .mode-of .ensures) at (told .topics-of .ensures) in
+    let n-places = counts-places (modeOf (a .flags)) (now (a .part)) (found .topics) in
+    let spans = spans-found (modeOf (a .flags)) (now (a .part)) _ _ _ _ _ _ n-places (c .before .before .before .before .before .if1 .left)
+    (c .before .before .before .before .if2 .left) refl refl (found .starts) (found .sizes) in
+    kept-other _ (now (a .part)) (now (a .id)) (spansIn (now (a .kept-starts)) (now (a .kept-sizes)) (a .n))
+    (sym (rw spans at (c .before .same-spans .ensures)) ∙ (c .if3 .left))
 
 pub kept-with-spec : {M : Type 1} → statement M
 kept-with-spec =

@@ -56,7 +56,10 @@ worded-requires-2 : tie.Need-worded-requires-2
 worded-requires-2 c κs = search needs
 
 returns-3 : tie.Need-returns-3
-returns-3 c = there-on _ _ _ _ _ _ _ (c .before .before .before .before .before .before .before .before .key .given .1) (c .before .before .before .before .before .is-key .ensures) _ (c .before .before .key-matches .ensures) _ (c .before .before .before .before .if2 .taken) (c .before .if3 .taken) (c .worded2 .ensures)
+returns-3 c =
+    let key = c .before .before .before .before .before .before .before .before .key in
+    there-on _ _ _ _ _ _ _ (key .given .1) (c .before .before .before .before .before .is-key .ensures) _
+    (c .before .before .key-matches .ensures) _ (c .before .before .before .before .if2 .taken) (c .before .if3 .taken) (c .worded2 .ensures)
 
 returns-4 : tie.Need-returns-4
 returns-4 c = there-not _ _ _ _ _ _ _ (c .before .before .before .before .before .before .before .key .given .1) (c .before .before .before .before .is-key .ensures) _ (c .before .key-matches .ensures) (c .before .before .before .if2 .taken) (c .if3 .left)

@@ -6,25 +6,36 @@ use Rattle.admission.proofs.limits.Reads as reads
 use Rattle.admission.proofs.limits.Lts as lts
 
 returns : tie.Need-returns
-returns c = limit-none (c .before .before .args .mode) _ _ _ _ (counts (c .before .before .args .mode) _ (c .before .before .pre)) (longs (c .before .before .args .mode) _ (c .before .before .pre)) (c .if1 .taken)
+returns c =
+    let a = c .before .before .args in
+    limit-none (a .mode) _ _ _ _ (counts (a .mode) _ (c .before .before .pre)) (longs (a .mode) _ (c .before .before .pre)) (c .if1 .taken)
 
 returns-2 : tie.Need-returns-2
-returns-2 c = limit-many (c .before .before .before .before .args .mode) _ _ _ _ (counts (c .before .before .before .before .args .mode) _ (c .before .before .before .before .pre)) (longs (c .before .before .before .before .args .mode) _ (c .before .before .before .before .pre)) (c .before
-    .before .if1 .left) (c .if2 .taken)
+returns-2 c =
+    let a = c .before .before .before .before .args in
+    let pre = c .before .before .before .before .pre in
+    limit-many (a .mode) _ _ _ _ (counts (a .mode) _ pre) (longs (a .mode) _ pre) (c .before .before .if1 .left) (c .if2 .taken)
 
 returns-3 : tie.Need-returns-3
-returns-3 c = limit-long (c .before .before .before .before .before .before .args .mode) _ _ _ _ (counts (c .before .before .before .before .before .before .args .mode) _ (c .before .before .before .before .before .before .pre)) (longs (c .before .before .before .before .before .before .args .mode) _ (c .before .before .before .before
-    .before .before .pre)) (c .before .before .before .before .if1 .left) (c .before .before .if2 .left) (c .if3 .taken)
+returns-3 c =
+    let a = c .before .before .before .before .before .before .args in
+    let pre = c .before .before .before .before .before .before .pre in
+    limit-long (a .mode) _ _ _ _ (counts (a .mode) _ pre) (longs (a .mode) _ pre) (c .before .before .before .before .if1 .left)
+    (c .before .before .if2 .left) (c .if3 .taken)
 
 returns-4 : tie.Need-returns-4
-returns-4 c = limit-size (c .before .before .before .before .before .before .before .args .mode) _ _ _ _ (counts (c .before .before .before .before .before .before .before .args .mode) _ (c .before .before .before .before .before .before .before .pre)) (longs (c .before .before .before .before .before .before .before .args .mode) _ (c .before .before .before
-    .before .before .before .before .pre)) (c .before .before .before .before .before .if1 .left) (c .before .before .before .if2 .left) (c .before
-    .if3 .left) (c .if4 .taken)
+returns-4 c =
+    let a = c .before .before .before .before .before .before .before .args in
+    let pre = c .before .before .before .before .before .before .before .pre in
+    limit-size (a .mode) _ _ _ _ (counts (a .mode) _ pre) (longs (a .mode) _ pre) (c .before .before .before .before .before .if1 .left)
+    (c .before .before .before .if2 .left) (c .before .if3 .left) (c .if4 .taken)
 
 returns-5 : tie.Need-returns-5
-returns-5 c = limit-fit (c .before .before .before .before .before .before .before .args .mode) _ _ _ _ (counts (c .before .before .before .before .before .before .before .args .mode) _ (c .before .before .before .before .before .before .before .pre)) (longs (c .before .before .before .before .before .before .before .args .mode) _ (c .before .before .before
-    .before .before .before .before .pre)) (c .before .before .before .before .before .if1 .left) (c .before .before .before .if2 .left) (c .before
-    .if3 .left) (c .if4 .left)
+returns-5 c =
+    let a = c .before .before .before .before .before .before .before .args in
+    let pre = c .before .before .before .before .before .before .before .pre in
+    limit-fit (a .mode) _ _ _ _ (counts (a .mode) _ pre) (longs (a .mode) _ pre) (c .before .before .before .before .before .if1 .left)
+    (c .before .before .before .if2 .left) (c .before .if3 .left) (c .if4 .left)
 
 pub limits-spec : {M : Type 1} → statement M
 limits-spec = tie.close (tie.spec returns returns-2 returns-3 returns-4 returns-5)

@@ -14,7 +14,10 @@ sub-from-len : tie.Need-sub-from-len
 sub-from-len c = search needs
 
 returns : tie.Need-returns
-returns c = parts-short ((c .before .before .before .args .part .now)) ((c .before .before .before .args .id .now)) (c .before .before .before .args .a) (c .before .before .before .args .e) (c .before .before .before .args .b) (c .before .before .before .args .f) ((c .before .before .before .pre .0)) ((c .before .before .before .pre .1)) (c .if1 .taken)
+returns c =
+    let a = c .before .before .before .args in
+    let pre = c .before .before .before .pre in
+    parts-short ((a .part .now)) ((a .id .now)) (a .a) (a .e) (a .b) (a .f) ((pre .0)) ((pre .1)) (c .if1 .taken)
 
 sub-same : tie.Need-sub-same
 sub-same c = search needs

@@ -50,14 +50,17 @@ same-length-2 : tie.Need-same-length-2 Inv-loop μ-loop
 same-length-2 c = search needs
 
 returns : tie.Need-returns Inv-loop μ-loop
-returns c = record {
-  topics = topics-done (c .before .before .before .before .before .before .before .before .args .mode) _ _ _ _ (topics-end (c .before .before .before .before .before .before .before .before .args .mode) _ _ (sym (c .enum-told .given .1) ∙ (c .before .before .read-field .ensures))) (c .before .before .before
-      .before .loop .inv .2) (c .before .before .before .before .loop .inv .3);
-  starts = note-done (λ (s : Span). s .start) _ _ _ _ (places-end (c .before .before .before .before .before .before .before .before .args .mode) _ _ (sym (c .enum-told .given .1) ∙ (c .before .before .read-field .ensures))) (c
-      .before .before .before .before .loop .inv .4);
-  sizes = note-done (λ (s : Span). s .size) _ _ _ _ (places-end (c .before .before .before .before .before .before .before .before .args .mode) _ _ (sym (c .enum-told .given .1) ∙ (c .before .before .read-field .ensures))) (c
-      .before .before .before .before .loop .inv .5);
-}
+returns c =
+    let l = c .before .before .before .before .loop in
+    let a = c .before .before .before .before .before .before .before .before .args in
+    record {
+      topics = topics-done (a .mode) _ _ _ _ (topics-end (a .mode) _ _
+          (sym (c .enum-told .given .1) ∙ (c .before .before .read-field .ensures))) (l .inv .2) (l .inv .3);
+      starts = note-done (λ (s : Span). s .start) _ _ _ _
+          (places-end (a .mode) _ _ (sym (c .enum-told .given .1) ∙ (c .before .before .read-field .ensures))) (l .inv .4);
+      sizes = note-done (λ (s : Span). s .size) _ _ _ _
+          (places-end (a .mode) _ _ (sym (c .enum-told .given .1) ∙ (c .before .before .read-field .ensures))) (l .inv .5);
+    }
 
 enum-told-2 : tie.Need-enum-told-2 Inv-loop μ-loop
 enum-told-2 c = search needs
@@ -69,22 +72,27 @@ same-length-4 : tie.Need-same-length-4 Inv-loop μ-loop
 same-length-4 c = search needs
 
 returns-2 : tie.Need-returns-2 Inv-loop μ-loop
-returns-2 c = record {
-  topics = topics-done (c .before .before .before .before .before .before .before .before .args .mode) _ _ _ _ (topics-refused (c .before .before .before .before .before .before .before .before .args .mode) _ _ _ (sym (c .enum-told2 .given .1) ∙ (c .before .before .read-field .ensures))) (c .before .before
-      .before .before .loop .inv .2) (c .before .before .before .before .loop .inv .3);
-  starts = note-done (λ (s : Span). s .start) _ _ _ _ (places-refused (c .before .before .before .before .before .before .before .before .args .mode) _ _ _ (sym (c .enum-told2 .given .1) ∙ (c .before .before .read-field
-      .ensures))) (c .before .before .before .before .loop .inv .4);
-  sizes = note-done (λ (s : Span). s .size) _ _ _ _ (places-refused (c .before .before .before .before .before .before .before .before .args .mode) _ _ _ (sym (c .enum-told2 .given .1) ∙ (c .before .before .read-field .ensures)))
-      (c .before .before .before .before .loop .inv .5);
-}
+returns-2 c =
+    let l = c .before .before .before .before .loop in
+    let a = c .before .before .before .before .before .before .before .before .args in
+    record {
+      topics = topics-done (a .mode) _ _ _ _ (topics-refused (a .mode) _ _ _
+          (sym (c .enum-told2 .given .1) ∙ (c .before .before .read-field .ensures))) (l .inv .2) (l .inv .3);
+      starts = note-done (λ (s : Span). s .start) _ _ _ _
+          (places-refused (a .mode) _ _ _ (sym (c .enum-told2 .given .1) ∙ (c .before .before .read-field .ensures))) (l .inv .4);
+      sizes = note-done (λ (s : Span). s .size) _ _ _ _
+          (places-refused (a .mode) _ _ _ (sym (c .enum-told2 .given .1) ∙ (c .before .before .read-field .ensures))) (l .inv .5);
+    }
 
 enum-known-step : tie.Need-enum-known-step Inv-loop μ-loop
 enum-known-step c = search needs
 
 sub-len : tie.Need-sub-len Inv-loop μ-loop
-sub-len c = (field-stands (c .before .before .before .before .before .before .before .before .before .before .args .mode) (c .before .before .before .before .before .before .before .before .before .before .args .part .now) (c .before .before
-    .before .before .before .before .loop .at) _ (sym (c .before .before .step .given .1) ∙ (c .before .before .before .before .read-field .ensures)))
-    .ends
+sub-len c =
+    let l = c .before .before .before .before .before .before .loop in
+    let a = c .before .before .before .before .before .before .before .before .before .before .args in
+    (field-stands (a .mode) (a .part .now) (l .at) _
+    (sym (c .before .before .step .given .1) ∙ (c .before .before .before .before .read-field .ensures))) .ends
 
 is-topic-requires : tie.Need-is-topic-requires Inv-loop μ-loop
 is-topic-requires c κs = search needs
@@ -103,61 +111,39 @@ long-after-requires c κs = search needs
 
 loop-less : tie.Need-loop-less Inv-loop μ-loop
 loop-less c =
-    let f = c .before .before .before .before .before .before .before .before .before .before .before .before .before .step .given .0 .0 in
-    let st = field-stands (c .before .before .before .before .before .before .before .before .before .before .before .before .before .before .before .before .before .before .before .before .before .args .mode) (c .before .before .before .before .before .before .before .before .before .before .before .before .before .before .before
-    .before .before .before .before .before .before .args .part .now) (c .before .before .before .before .before .before .before .before .before
-    .before .before .before .before .before .before .before .before .loop .at) f (sym (c .before .before .before .before .before .before .before
-    .before .before .before .before .before .before .step .given .1) ∙ (c .before .before .before .before .before .before .before .before .before
-    .before .before .before .before .before .before .read-field .ensures)) in
+    let b = c .before .before .before .before .before .before .before .before .before .before in
+    let step = b .before .before .before .step in
+    let read-field = b .before .before .before .before .before .read-field in
+    let l = b .before .before .before .before .before .before .before .loop in
+    let a = b .before .before .before .before .before .before .before .before .before .before .before .args in
+    let f = step .given .0 .0 in
+    let st = field-stands (a .mode) (a .part .now) (l .at) f (sym (step .given .1) ∙ (read-field .ensures)) in
     omega (arith, st)
 
 loop-again : tie.Need-loop-again Inv-loop μ-loop
 loop-again c =
-    let f = c .before .before .before .before .before .before .before .before .before .before .before .before .before .step .given .0 .0 in
-    let e = sym (c .before .before .before .before .before .before .before .before .before .before .before .before .before .step .given .1) ∙ (c
-    .before .before .before .before .before .before .before .before .before .before .before .before .before .before .before .read-field .ensures)
-    in
-    let st = field-stands (c .before .before .before .before .before .before .before .before .before .before .before .before .before .before .before .before .before .before .before .before .before .args .mode) (c .before .before .before .before .before .before .before .before .before .before .before .before .before .before .before
-    .before .before .before .before .before .before .args .part .now) (c .before .before .before .before .before .before .before .before .before
-    .before .before .before .before .before .before .before .before .loop .at) f e in
-    let k = at-most (isBytes 4 f) (c .before .before .before .before .before .before .before .before .before .before .before .before .before .before
-    .before .before .before .loop .n) (c .before .count-after .result) (c .before .count-after .ensures) in (
+    let note2 = c .before .before .before .before .note2 in
+    let note = c .before .before .before .before .before .before .before .before .note in
+    let is-topic = c .before .before .before .before .before .before .before .before .before .before .is-topic in
+    let b = c .before .before .before .before .before .before .before .before .before .before in
+    let step = b .before .before .before .step in
+    let read-field = b .before .before .before .before .before .read-field in
+    let l = b .before .before .before .before .before .before .before .loop in
+    let a = b .before .before .before .before .before .before .before .before .before .before .before .args in
+    let f = step .given .0 .0 in
+    let e = sym (step .given .1) ∙ (read-field .ensures) in
+    let st = field-stands (a .mode) (a .part .now) (l .at) f e in
+    let k = at-most (isBytes 4 f) (l .n) (c .before .count-after .result) (c .before .count-after .ensures) in (
       st .within,
       omega arith,
-      (c .before .before .before .before .before .before .before .before .before .before .before .before .before .before .before .before .before .loop
-          .inv .2) ∙ count-more (c .before .before .before .before .before .before .before .before .before .before .before .before .before .before .before .before .before .before .before .before .before .args .mode) (c .before .before .before .before .before .before .before .before .before .before .before .before .before .before
-          .before .before .before .before .before .before .before .args .part .now) (c .before .before .before .before .before .before .before .before
-          .before .before .before .before .before .before .before .before .before .loop .at) (c .before .before .before .before .before .before
-          .before .before .before .before .before .before .before .before .before .before .before .loop .n) (c .before .count-after .result) f e (c
-          .before .count-after .ensures),
-      (c .before .before .before .before .before .before .before .before .before .before .before .before .before .before .before .before .before .loop
-          .inv .3) ∙ long-more (c .before .before .before .before .before .before .before .before .before .before .before .before .before .before .before .before .before .before .before .before .before .args .mode) (c .before .before .before .before .before .before .before .before .before .before .before .before .before .before
-          .before .before .before .before .before .before .before .args .part .now) (c .before .before .before .before .before .before .before .before
-          .before .before .before .before .before .before .before .before .before .loop .at) (c .before .before .before .before .before .before
-          .before .before .before .before .before .before .before .before .before .before .before .loop .long) (c .long-after .result) f e st (c
-          .long-after .ensures),
-      sym (note-more (λ (s : Span). s .start) (c .before .before .before .before .before .before .before .before .before .before .before .before .before .before .before .before .before .before .before .before .before .args .mode) (c .before .before .before .before .before .before .before .before .before .before .before .before
-          .before .before .before .before .before .before .before .before .before .args .part .now) (c .before .before .before .before .before .before
-          .before .before .before .before .before .before .before .before .before .before .before .loop .at) f _ _ _ _ _ e (c .before .before .before
-          .before .before .before .before .before .before .before .is-topic .ensures) (c .before .before .before .before .before .before .before
-          .before .note .ensures) (c .before .count-after .ensures)) ∙ (c .before .before .before .before .before .before .before .before .before
-          .before .before .before .before .before .before .before .before .loop .inv .4),
-      sym (note-more (λ (s : Span). s .size) (c .before .before .before .before .before .before .before .before .before .before .before .before .before .before .before .before .before .before .before .before .before .args .mode) (c .before .before .before .before .before .before .before .before .before .before .before .before
-          .before .before .before .before .before .before .before .before .before .args .part .now) (c .before .before .before .before .before .before
-          .before .before .before .before .before .before .before .before .before .before .before .loop .at) f _ _ _ _ _ e (c .before .before .before
-          .before .before .before .before .before .before .before .is-topic .ensures) (c .before .before .before .before .note2 .ensures) (c .before
-          .count-after .ensures)) ∙ (c .before .before .before .before .before .before .before .before .before .before .before .before .before .before
-          .before .before .before .loop .inv .5),
-      note-length (c .before .before .before .before .before .before .before .before .before .before .is-topic .result) (c .before .before .before
-          .before .before .before .before .before .before .before .before .before .before .before .before .before .before .loop .starts) _ (c .before
-          .before .before .before .before .before .before .before .before .before .before .before .before .before .before .before .before .loop .n) (f
-          .start) _ (c .before .before .before .before .before .before .before .before .note .ensures) (c .before .before .before .before .before
-          .before .before .before .before .before .before .before .before .before .before .before .before .loop .inv .6),
-      note-length (c .before .before .before .before .before .before .before .before .before .before .is-topic .result) (c .before .before .before
-          .before .before .before .before .before .before .before .before .before .before .before .before .before .before .loop .sizes) _ (c .before
-          .before .before .before .before .before .before .before .before .before .before .before .before .before .before .before .before .loop .n) (f
-          .next - f .start) _ (c .before .before .before .before .note2 .ensures) (c .before .before .before .before .before .before .before .before
-          .before .before .before .before .before .before .before .before .before .loop .inv .7),
+      (l .inv .2) ∙ count-more (a .mode) (a .part .now) (l .at) (l .n) (c .before .count-after .result) f e (c .before .count-after .ensures),
+      (l .inv .3) ∙ long-more (a .mode) (a .part .now) (l .at) (l .long) (c .long-after .result) f e st (c .long-after .ensures),
+      sym (note-more (λ (s : Span). s .start) (a .mode) (a .part .now) (l .at) f _ _ _ _ _ e (is-topic .ensures) (note .ensures)
+          (c .before .count-after .ensures)) ∙ (l .inv .4),
+      sym (note-more (λ (s : Span). s .size) (a .mode) (a .part .now) (l .at) f _ _ _ _ _ e (is-topic .ensures) (note2 .ensures)
+          (c .before .count-after .ensures)) ∙ (l .inv .5),
+      note-length (is-topic .result) (l .starts) _ (l .n) (f .start) _ (note .ensures) (l .inv .6),
+      note-length (is-topic .result) (l .sizes) _ (l .n) (f .next - f .start) _ (note2 .ensures) (l .inv .7),
     )
 
 same-length-5 : tie.Need-same-length-5 Inv-loop μ-loop
@@ -167,11 +153,13 @@ same-length-6 : tie.Need-same-length-6 Inv-loop μ-loop
 same-length-6 c = search needs
 
 returns-3 : tie.Need-returns-3 Inv-loop μ-loop
-returns-3 c = record {
-  topics = topics-done (c .before .before .before .before .before .args .mode) _ _ _ _ (topics-past (c .before .before .before .before .before .args .mode) _ _ (c .loop-test .left)) (c .before .loop .inv .2) (c .before .loop .inv .3);
-  starts = note-done (λ (s : Span). s .start) _ _ _ _ (places-past (c .before .before .before .before .before .args .mode) _ _ (c .loop-test .left)) (c .before .loop .inv .4);
-  sizes = note-done (λ (s : Span). s .size) _ _ _ _ (places-past (c .before .before .before .before .before .args .mode) _ _ (c .loop-test .left)) (c .before .loop .inv .5);
-}
+returns-3 c =
+    let a = c .before .before .before .before .before .args in
+    record {
+      topics = topics-done (a .mode) _ _ _ _ (topics-past (a .mode) _ _ (c .loop-test .left)) (c .before .loop .inv .2) (c .before .loop .inv .3);
+      starts = note-done (λ (s : Span). s .start) _ _ _ _ (places-past (a .mode) _ _ (c .loop-test .left)) (c .before .loop .inv .4);
+      sizes = note-done (λ (s : Span). s .size) _ _ _ _ (places-past (a .mode) _ _ (c .loop-test .left)) (c .before .loop .inv .5);
+    }
 
 pub topics-of-spec : {M : Type 1} → statement M
 topics-of-spec =

@@ -194,7 +194,10 @@ emit-held-enum-told-2 t c = search needs
 
 emit-held-emit-whole-requires : (t : ℕ) → emit-held-lts.Need-emit-whole-requires (emit-held-claims t) (emit-held-at t) emit-held.Post
 unfolding heldPart
-emit-held-emit-whole-requires t c κs = let a = c .before .before .before .before .before .args in (c .before .before .before .before .before .pre .1 .0, fits-same (a .at) _ _ (held-is Groups (a .n) (a .input .now) (a .held) _ (c .before .enum-told2 .given .1)) (c .before .before .before .before .before .pre .1 .1))
+emit-held-emit-whole-requires t c κs =
+    let a = c .before .before .before .before .before .args in
+    let pre = c .before .before .before .before .before .pre in
+    (pre .1 .0, fits-same (a .at) _ _ (held-is Groups (a .n) (a .input .now) (a .held) _ (c .before .enum-told2 .given .1)) (pre .1 .1))
 
 emit-held-enum-known-held : (t : ℕ) → emit-held-lts.Need-enum-known-held (emit-held-claims t) (emit-held-at t) emit-held.Post
 emit-held-enum-known-held t c = search needs
@@ -203,8 +206,15 @@ emit-held-emit-anew-requires : (t : ℕ) → emit-held-lts.Need-emit-anew-requir
 unfolding heldPart
 emit-held-emit-anew-requires t c κs =
     let a = c .before .before .before .before .before .before .args in
-    let d = ap depth (c .before .before .held .given .1) in
-    (omega (arith, c .before .before .before .before .before .before .pre .0), (c .before .before .before .before .before .before .pre .1 .0, fits-same (a .at) _ _ (held-is Groups (a .n) (a .input .now) (a .held) _ (c .before .before .held .given .1)) (c .before .before .before .before .before .before .pre .1 .1)))
+    let pre = c .before .before .before .before .before .before .pre in
+    let d = ap depth (c .before .before .held .given .1) in (
+      omega (arith, pre .0),
+      (
+        pre .1 .0,
+        fits-same (a .at) _ _
+            (held-is Groups (a .n) (a .input .now) (a .held) _ (c .before .before .held .given .1)) (pre .1 .1),
+      ),
+    )
 
 emit-held-enum-told-3 : (t : ℕ) → emit-held-lts.Need-enum-told-3 (emit-held-claims t) (emit-held-at t) emit-held.Post
 emit-held-enum-told-3 t c = search needs
@@ -218,14 +228,22 @@ emit-held-same-length t c = search needs
 
 emit-held-returns-2 : (t : ℕ) → emit-held-lts.Need-returns-2 (emit-held-claims t) (emit-held-at t) emit-held.Post
 unfolding heldPart
-emit-held-returns-2 t c = let a = c .before .before .before .before .before .before .before .before .args in puts-same (a .out .now) (a .at) _ _ _ _ (sym (held-is Groups (a .n) (a .input .now) (a .held) _ (c .before .before .before .before .enum-told2 .given .1))) (c .before .before .emit-whole .ensures)
+emit-held-returns-2 t c =
+    let a = c .before .before .before .before .before .before .before .before .args in
+    puts-same (a .out .now) (a .at) _ _ _ _ (sym
+    (held-is Groups (a .n) (a .input .now) (a .held) _ (c .before .before .before .before .enum-told2 .given .1)))
+    (c .before .before .emit-whole .ensures)
 
 emit-held-same-length-2 : (t : ℕ) → emit-held-lts.Need-same-length-2 (emit-held-claims t) (emit-held-at t) emit-held.Post
 emit-held-same-length-2 t c = search needs
 
 emit-held-returns-3 : (t : ℕ) → emit-held-lts.Need-returns-3 (emit-held-claims t) (emit-held-at t) emit-held.Post
 unfolding heldPart
-emit-held-returns-3 t c = let a = c .before .before .before .before .before .before .before .before .before .args in puts-same (a .out .now) (a .at) _ _ _ _ (sym (held-is Groups (a .n) (a .input .now) (a .held) _ (c .before .before .before .before .before .held .given .1))) (c .before .before .emit-anew .ensures)
+emit-held-returns-3 t c =
+    let a = c .before .before .before .before .before .before .before .before .before .args in
+    puts-same (a .out .now) (a .at) _ _ _ _ (sym
+    (held-is Groups (a .n) (a .input .now) (a .held) _ (c .before .before .before .before .before .held .given .1)))
+    (c .before .before .emit-anew .ensures)
 
 emit-held-returns-4 : (t : ℕ) → emit-held-lts.Need-returns-4 (emit-held-claims t) (emit-held-at t) emit-held.Post
 unfolding heldPart
@@ -256,8 +274,8 @@ emit-message-row-of-requires t c κs = search needs
 
 emit-message-emit-own-requires : (t : ℕ) → emit-message-lts.Need-emit-own-requires (emit-message-claims t) (emit-message-at t) emit-message.Post emit-message-Inv-loop emit-message-μ-loop
 emit-message-emit-own-requires t c κs =
-    let a = c .before .before .before .before .before .before .before .before .args in
     let l = c .before .before .before .loop in
+    let a = c .before .before .before .before .before .before .before .before .args in
     let r = c .before .row-of .ensures in
     let part = partWith Groups (canon Groups) (a .kind) (a .part .now) in
     let d = order-step part (l .n) _ (c .before .before .loop-test .taken) in
@@ -265,7 +283,10 @@ emit-message-emit-own-requires t c κs =
     let m = few-rows (a .kind) in (
       omega (arith, c .before .before .before .before .rows .ensures),
       subst (SlotsInside (a .part .now)) (sym q) (slots-inside Groups (a .kind) (a .part .now)),
-      own-fits Groups _ (a .kind) (a .part .now) (l .n) _ q r _ (fits-first _ (ownPart (slotsOf Groups (a .kind) (a .part .now)) (l .n) (a .part .now) (rowOf (a .kind) (l .n))) (heldPart Groups (canon Groups) (l .n) (a .part .now) (heldOf (rowOf (a .kind) (l .n)))) (going-fits _ _ _ _ _ _ (l .inv .2) (part (l .n)) _ d)),
+      own-fits Groups _ (a .kind) (a .part .now) (l .n) _ q r _
+          (fits-first _ (ownPart (slotsOf Groups (a .kind) (a .part .now)) (l .n) (a .part .now) (rowOf (a .kind) (l .n)))
+          (heldPart Groups (canon Groups) (l .n) (a .part .now) (heldOf (rowOf (a .kind) (l .n))))
+          (going-fits _ _ _ _ _ _ (l .inv .2) (part (l .n)) _ d)),
     )
 
 emit-message-held-of-requires : (t : ℕ) → emit-message-lts.Need-held-of-requires (emit-message-claims t) (emit-message-at t) emit-message.Post emit-message-Inv-loop emit-message-μ-loop
@@ -372,10 +393,15 @@ emit-sub-add-if3 t c =
 
 emit-sub-add-result : (t : ℕ) → emit-sub-lts.Need-add-result (emit-sub-claims t) (emit-sub-at t) emit-sub.Post
 emit-sub-add-result t c =
-    let a = c .before .before .before .before .before .before .before .before .before .before .before .before .before .before .before .args in
+    let if2 = c .before .before .before .before .before .before .before .before .before .if2 in
+    let if1 = c .before .before .before .before .before .before .before .before .before .before .before .if1 in
+    let b = c .before .before .before .before .before .before .before .before .before .before .before .before .before .before .before in
+    let a = b .args in
+    let pre = b .pre in
     let d = canon Groups (a .kind) (valueIn (a .input .now) (a .f)) in
-    let y = field-yes (a .n) (a .f) (bytesField (a .n) d) (c .before .before .before .before .before .before .before .before .before .before .before .if1 .taken) (c .before .before .before .before .before .before .before .before .before .if2 .taken) in
-    let s = sum-fits (a .n) _ d (a .at) y (c .before .before .before .before .before .before .before .before .before .before .before .before .before .before .before .pre .1 .2) _ _ _ (c .before .before .before .before .before .before .emit-message .ensures) _ _ _ (c .before .before .before .emit-head .ensures) in
+    let y = field-yes (a .n) (a .f) (bytesField (a .n) d) (if1 .taken) (if2 .taken) in
+    let s = sum-fits (a .n) _ d (a .at) y (pre .1 .2) _ _ _ (c .before .before .before .before .before .before .emit-message .ensures) _ _ _
+    (c .before .before .before .emit-head .ensures) in
     omega arith
 
 emit-sub-same-length : (t : ℕ) → emit-sub-lts.Need-same-length (emit-sub-claims t) (emit-sub-at t) emit-sub.Post
@@ -383,10 +409,15 @@ emit-sub-same-length t c = search needs
 
 emit-sub-returns : (t : ℕ) → emit-sub-lts.Need-returns (emit-sub-claims t) (emit-sub-at t) emit-sub.Post
 emit-sub-returns t c =
-    let a = c .before .before .before .before .before .before .before .before .before .before .before .before .before .before .before .args in
+    let if2 = c .before .before .before .before .before .before .before .before .before .if2 in
+    let if1 = c .before .before .before .before .before .before .before .before .before .before .before .if1 in
+    let b = c .before .before .before .before .before .before .before .before .before .before .before .before .before .before .before in
+    let a = b .args in
+    let pre = b .pre in
     let d = canon Groups (a .kind) (valueIn (a .input .now) (a .f)) in
-    let y = field-yes (a .n) (a .f) (bytesField (a .n) d) (c .before .before .before .before .before .before .before .before .before .before .before .if1 .taken) (c .before .before .before .before .before .before .before .before .before .if2 .taken) in
-    field-short (a .n) _ d (a .at) y (c .before .before .before .before .before .before .before .before .before .before .before .before .before .before .before .pre .1 .2) _ _ _ (c .before .before .before .before .before .before .emit-message .ensures) _ _ _ (c .before .before .before .emit-head .ensures) (search needs) (c .if3 .taken)
+    let y = field-yes (a .n) (a .f) (bytesField (a .n) d) (if1 .taken) (if2 .taken) in
+    field-short (a .n) _ d (a .at) y (pre .1 .2) _ _ _ (c .before .before .before .before .before .before .emit-message .ensures) _ _ _
+    (c .before .before .before .emit-head .ensures) (search needs) (c .if3 .taken)
 
 emit-sub-sub-emit-message-2 : (t : ℕ) → emit-sub-lts.Need-sub-emit-message-2 (emit-sub-claims t) (emit-sub-at t) emit-sub.Post
 emit-sub-sub-emit-message-2 t c = c .before .before .before .before .before .before .before .before .before .before .before .before .before .before .before .pre .1 .1 .order
@@ -417,13 +448,17 @@ emit-sub-same-length-2 t c = search needs
 
 emit-sub-returns-2 : (t : ℕ) → emit-sub-lts.Need-returns-2 (emit-sub-claims t) (emit-sub-at t) emit-sub.Post
 emit-sub-returns-2 t c =
-    let a = c .before .before .before .before .before .before .before .before .before .before .before .before .before .before .before .before .before .before .before .before .args in
+    let emit-head = c .before .before .before .before .before .before .before .before .emit-head in
+    let emit-message = c .before .before .before .before .before .before .before .before .before .before .before .emit-message in
+    let b = c .before .before .before .before .before .before .before .before .before .before in
+    let if2 = b .before .before .before .before .if2 in
+    let if1 = b .before .before .before .before .before .before .if1 in
+    let a = b .before .before .before .before .before .before .before .before .before .before .args in
+    let pre = b .before .before .before .before .before .before .before .before .before .before .pre in
     let d = canon Groups (a .kind) (valueIn (a .input .now) (a .f)) in
-    let y = field-yes (a .n) (a .f) (bytesField (a .n) d) (c .before .before .before .before .before .before .before .before .before .before .before .before .before .before .before .before .if1 .taken) (c .before .before .before .before .before .before .before .before .before .before .before .before .before .before .if2 .taken) in
-    field-puts (a .n) _ d (a .at) y
-    (c .before .before .before .before .before .before .before .before .before .before .before .before .before .before .before .before .before .before
-    .before .before .pre .1 .2) _ _ _ (c .before .before .before .before .before .before .before .before .before .before .before .emit-message .ensures) _ _
-    _ (c .before .before .before .before .before .before .before .before .emit-head .ensures) _ _ (c .before .before .emit-message2 .ensures)
+    let y = field-yes (a .n) (a .f) (bytesField (a .n) d) (if1 .taken) (if2 .taken) in
+    field-puts (a .n) _ d (a .at) y (pre .1 .2) _ _ _ (emit-message .ensures) _ _ _ (emit-head .ensures) _ _
+    (c .before .before .emit-message2 .ensures)
 
 emit-sub-returns-3 : (t : ℕ) → emit-sub-lts.Need-returns-3 (emit-sub-claims t) (emit-sub-at t) emit-sub.Post
 emit-sub-returns-3 t c =

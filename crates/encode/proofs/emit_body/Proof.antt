@@ -44,9 +44,14 @@ held-of-requires c κs = search needs
 
 emit-top-requires : tie.Need-emit-top-requires Inv-loop μ-loop
 emit-top-requires c κs =
-    let a = c .before .before .before .before .before .before .before .before .args in
     let l = c .before .before .before .before .loop in
-    (omega (arith, c .before .before .before .before .before .rows .ensures), fits-same _ _ _ (sym (ap (bodyPart Groups (a .body .now) (l .n)) (c .before .held-of .ensures ∙ ap heldOf (c .before .before .row-of .ensures)))) (going-fits _ _ _ _ _ _ (l .inv .2) (top (a .edition) (a .body .now) (l .n)) _ (order-step (top (a .edition) (a .body .now)) (l .n) _ (c .before .before .before .loop-test .taken))))
+    let a = c .before .before .before .before .before .before .before .before .args in (
+      omega (arith, c .before .before .before .before .before .rows .ensures),
+      fits-same _ _ _
+          (sym (ap (bodyPart Groups (a .body .now) (l .n)) (c .before .held-of .ensures ∙ ap heldOf (c .before .before .row-of .ensures))))
+          (going-fits _ _ _ _ _ _ (l .inv .2) (top (a .edition) (a .body .now) (l .n)) _
+          (order-step (top (a .edition) (a .body .now)) (l .n) _ (c .before .before .before .loop-test .taken))),
+    )
 
 add-n : tie.Need-add-n Inv-loop μ-loop
 add-n c = omega (arith, c .before .before .before .before .before .before .before .before .rows .ensures)

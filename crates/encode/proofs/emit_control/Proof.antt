@@ -19,7 +19,11 @@ slice-aggregate-emit-merged : tie.Need-slice-aggregate-emit-merged
 slice-aggregate-emit-merged c = search needs
 
 emit-merged-requires : tie.Need-emit-merged-requires
-emit-merged-requires c κs = let a = c .before .before .before .before .before .args in let x = mergedOf Groups (a .kind) (a .n) (a .body .now) in measure-fits (a .n) _ x (a .at) (ap (λ (t : Bool). cond t (bytesField (a .n) x) []) (sym (c .before .before .has-field .ensures) ∙ c .before .if1 .taken)) (c .before .before .before .before .before .pre .1)
+emit-merged-requires c κs =
+    let a = c .before .before .before .before .before .args in
+    let x = mergedOf Groups (a .kind) (a .n) (a .body .now) in measure-fits (a .n) _ x (a .at)
+    (ap (λ (t : Bool). cond t (bytesField (a .n) x) []) (sym (c .before .before .has-field .ensures) ∙ c .before .if1 .taken))
+    (c .before .before .before .before .before .pre .1)
 
 emit-head-requires : tie.Need-emit-head-requires
 emit-head-requires c κs = let a = (c .before .before .before .before .before .before .before .before .args) in
@@ -87,7 +91,10 @@ returns-2 c = let a =
     (c .before .before .before .before .before .before .before .emit-head .ensures) _ _ (c .before .before .emit-merged2 .ensures)
 
 returns-3 : tie.Need-returns-3
-returns-3 c = let a = (c .before .before .before .before .args) in let x = mergedOf Groups (a .kind) (a .n) (a .body .now) in puts-same (a .out .now) (a .at) [] _ _ _ (sym (ap (λ (t : Bool). cond t (bytesField (a .n) x) []) (sym (c .before .has-field .ensures) ∙ (c .if1 .left)))) (puts-none (a .out .now) (a .at))
+returns-3 c =
+    let a = (c .before .before .before .before .args) in let x = mergedOf Groups (a .kind) (a .n) (a .body .now) in puts-same (a .out .now)
+    (a .at) [] _ _ _ (sym (ap (λ (t : Bool). cond t (bytesField (a .n) x) []) (sym (c .before .has-field .ensures) ∙ (c .if1 .left))))
+    (puts-none (a .out .now) (a .at))
 
 pub emit-control-spec : {M : Type 1} → statement M
 emit-control-spec =

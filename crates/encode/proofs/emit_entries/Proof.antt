@@ -32,7 +32,12 @@ abbrev μ-loop : tie.MeasureT-loop
 
 loop-holds : tie.Need-loop-holds Inv-loop μ-loop
 unfolding entriesOf
-loop-holds c = let a = c .before .before .args in (going-all (a .out .now) (a .at) (eachAlong (entry (a .kind) (a .m)) (a .n) (a .body .now) (fieldsOf Groups (a .body .now))) (c .before .before .pre .1), refl)
+loop-holds c =
+    let a = c .before .before .args in (
+      going-all (a .out .now) (a .at) (eachAlong (entry (a .kind) (a .m)) (a .n) (a .body .now) (fieldsOf Groups (a .body .now)))
+          (c .before .before .pre .1),
+      refl,
+    )
 
 read-field-requires : tie.Need-read-field-requires Inv-loop μ-loop
 read-field-requires c κs = search needs
@@ -45,9 +50,10 @@ same-length c = let k = c .before .before .before .before .loop .inv .1 in omega
 
 returns : tie.Need-returns Inv-loop μ-loop
 returns c =
-    let a = c .before .before .before .before .before .before .before .args in
     let l = c .before .before .before .before .loop in
-    going-none _ _ _ _ _ _ (l .inv .0) (ap (eachAlong (entry (a .kind) (a .m)) (a .n) (a .body .now)) (walk-on Groups (a .body .now) (l .i) step.End (sym (c .enum-told .given .1) ∙ c .before .before .read-field .ensures)))
+    let a = c .before .before .before .before .before .before .before .args in
+    going-none _ _ _ _ _ _ (l .inv .0) (ap (eachAlong (entry (a .kind) (a .m)) (a .n) (a .body .now))
+    (walk-on Groups (a .body .now) (l .i) step.End (sym (c .enum-told .given .1) ∙ c .before .before .read-field .ensures)))
 
 enum-told-2 : tie.Need-enum-told-2 Inv-loop μ-loop
 enum-told-2 c = search needs
@@ -57,28 +63,37 @@ same-length-2 c = let k = c .before .before .before .before .loop .inv .1 in ome
 
 returns-2 : tie.Need-returns-2 Inv-loop μ-loop
 returns-2 c =
-    let a = c .before .before .before .before .before .before .before .args in
     let l = c .before .before .before .before .loop in
-    going-none _ _ _ _ _ _ (l .inv .0) (ap (eachAlong (entry (a .kind) (a .m)) (a .n) (a .body .now)) (walk-on Groups (a .body .now) (l .i) _ (sym (c .enum-told2 .given .1) ∙ c .before .before .read-field .ensures)))
+    let a = c .before .before .before .before .before .before .before .args in
+    going-none _ _ _ _ _ _ (l .inv .0) (ap (eachAlong (entry (a .kind) (a .m)) (a .n) (a .body .now))
+    (walk-on Groups (a .body .now) (l .i) _ (sym (c .enum-told2 .given .1) ∙ c .before .before .read-field .ensures)))
 
 enum-known-step : tie.Need-enum-known-step Inv-loop μ-loop
 enum-known-step c = search needs
 
 emit-entry-requires : tie.Need-emit-entry-requires Inv-loop μ-loop
 emit-entry-requires c κs =
-    let a = c .before .before .before .before .before .before .before .before .before .args in
     let l = c .before .before .before .before .before .before .loop in
+    let a = c .before .before .before .before .before .before .before .before .before .args in
+    let pre = c .before .before .before .before .before .before .before .before .before .pre in
     let e = sym (c .before .before .step .given .1) ∙ c .before .before .before .before .read-field .ensures in
     let f = c .before .before .step .given .0 .0 in
     let x = cond (isBytes (a .n) f) (entry (a .kind) (a .m) (valueIn (a .body .now) f)) [] in
     let o = eachAlong (entry (a .kind) (a .m)) (a .n) (a .body .now) (walkAt Groups (a .body .now) (f .next)) in
-    let m = field-stands Groups (a .body .now) (l .i) f e in
-    (c .before .before .before .before .before .before .before .before .before .pre .0, record { order = m .ends; fits = m .within }, going-fits _ _ _ _ _ _ (l .inv .0) x o (each-field Groups (entry (a .kind) (a .m)) (a .n) (a .body .now) (l .i) f e))
+    let m = field-stands Groups (a .body .now) (l .i) f e in (
+      pre .0,
+      record { order = m .ends; fits = m .within },
+      going-fits _ _ _ _ _ _ (l .inv .0) x o
+          (each-field Groups (entry (a .kind) (a .m)) (a .n) (a .body .now) (l .i) f e),
+    )
 
 loop-less : tie.Need-loop-less Inv-loop μ-loop
 loop-less c =
-    let a = c .before .before .before .before .before .before .before .before .before .before .before .before .args in
-    let m = field-stands Groups (a .body .now) (c .before .before .before .before .before .before .before .before .before .loop .i) _ (sym (c .before .before .before .before .before .step .given .1) ∙ c .before .before .before .before .before .before .before .read-field .ensures) in
+    let read-field = c .before .before .before .before .before .before .before .read-field in
+    let l = c .before .before .before .before .before .before .before .before .before .loop in
+    let b = c .before .before .before .before .before .before .before .before .before .before in
+    let a = b .before .before .args in
+    let m = field-stands Groups (a .body .now) (l .i) _ (sym (c .before .before .before .before .before .step .given .1) ∙ read-field .ensures) in
     omega arith
 
 loop-again : tie.Need-loop-again Inv-loop μ-loop

@@ -19,14 +19,20 @@ emit-varint-requires c κs = let a = c .before .before .args in fits-first (a .a
 
 emit-varint-requires-2 : tie.Need-emit-varint-requires-2
 unfolding tag
-emit-varint-requires-2 c κs = let a = c .before .before .before .before .before .before .args in fits-next (a .out .now) _ (a .at) _ (uvarint (a .n * 8 + 2)) (uvarint (a .len)) (c .before .before .before .emit-varint .ensures) (c .before .before .before .before .before .before .pre .1)
+emit-varint-requires-2 c κs =
+    let a = c .before .before .before .before .before .before .args in
+    fits-next (a .out .now) _ (a .at) _ (uvarint (a .n * 8 + 2)) (uvarint (a .len)) (c .before .before .before .emit-varint .ensures)
+    (c .before .before .before .before .before .before .pre .1)
 
 same-length : tie.Need-same-length
 same-length c = search needs
 
 returns : tie.Need-returns
 unfolding tag
-returns c = let a = c .before .before .before .before .before .before .before .before .before .args in puts-append (a .out .now) _ _ (a .at) _ _ (uvarint (a .n * 8 + 2)) (uvarint (a .len)) (c .before .before .before .before .before .before .emit-varint .ensures) (c .before .before .emit-varint2 .ensures)
+returns c =
+    let a = c .before .before .before .before .before .before .before .before .before .args in
+    puts-append (a .out .now) _ _ (a .at) _ _ (uvarint (a .n * 8 + 2)) (uvarint (a .len))
+    (c .before .before .before .before .before .before .emit-varint .ensures) (c .before .before .emit-varint2 .ensures)
 
 pub emit-head-spec : {M : Type 1} → statement M
 emit-head-spec =

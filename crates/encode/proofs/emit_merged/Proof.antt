@@ -29,23 +29,37 @@ loop-holds c =
 
 emit-entries-requires : tie.Need-emit-entries-requires Inv-loop μ-loop
 emit-entries-requires c κs =
-    let a = c .before .before .before .before .before .before .args in
     let l = c .before .before .loop in
-    let m = few-rows (a .kind) in
-    (omega (arith, c .before .before .before .rows .ensures), going-fits _ _ _ _ _ _ (l .inv .2) (entriesOf Groups (a .kind) (a .n) (a .body .now) (l .m)) _ (order-step (entriesOf Groups (a .kind) (a .n) (a .body .now)) (l .m) _ (c .before .loop-test .taken)))
+    let a = c .before .before .before .before .before .before .args in
+    let m = few-rows (a .kind) in (
+      omega (arith, c .before .before .before .rows .ensures),
+      going-fits _ _ _ _ _ _ (l .inv .2)
+          (entriesOf Groups (a .kind) (a .n) (a .body .now) (l .m)) _
+          (order-step (entriesOf Groups (a .kind) (a .n) (a .body .now)) (l .m) _ (c .before .loop-test .taken)),
+    )
 
 add-m : tie.Need-add-m Inv-loop μ-loop
 add-m c = let m = few-rows (c .before .before .before .before .before .before .before .before .before .args .kind) in omega (arith, c .before .before .before .before .before .before .rows .ensures)
 
 loop-less : tie.Need-loop-less Inv-loop μ-loop
-loop-less c = let m = few-rows (c .before .before .before .before .before .before .before .before .before .args .kind) in omega (arith, c .before .before .before .before .before .before .rows .ensures)
+loop-less c =
+    let a = c .before .before .before .before .before .before .before .before .before .args in
+    let m = few-rows (a .kind) in omega (arith, c .before .before .before .before .before .before .rows .ensures)
 
 loop-again : tie.Need-loop-again Inv-loop μ-loop
 loop-again c =
-    let a = c .before .before .before .before .before .before .before .before .before .args in
+    let loop-test = c .before .before .before .before .loop-test in
     let l = c .before .before .before .before .before .loop in
-    let k = l .inv .3 in
-    (omega arith, omega (arith, c .before .before .before .before .loop-test .taken), going-part _ _ _ _ _ _ (l .inv .2) (entriesOf Groups (a .kind) (a .n) (a .body .now) (l .m)) _ (order-step (entriesOf Groups (a .kind) (a .n) (a .body .now)) (l .m) _ (c .before .before .before .before .loop-test .taken)) _ _ (c .before .before .emit-entries .ensures), omega arith)
+    let a = c .before .before .before .before .before .before .before .before .before .args in
+    let k = l .inv .3 in (
+      omega arith,
+      omega (arith, loop-test .taken),
+      going-part _ _ _ _ _ _ (l .inv .2)
+          (entriesOf Groups (a .kind) (a .n) (a .body .now) (l .m)) _
+          (order-step (entriesOf Groups (a .kind) (a .n) (a .body .now)) (l .m) _ (loop-test .taken)) _ _
+          (c .before .before .emit-entries .ensures),
+      omega arith,
+    )
 
 same-length : tie.Need-same-length Inv-loop μ-loop
 same-length c = let k = c .before .loop .inv .3 in omega arith

@@ -28,9 +28,11 @@ emit-varint-requires c κs =
 
 emit-varint-requires-2 : tie.Need-emit-varint-requires-2
 emit-varint-requires-2 c κs =
+    let number = c .before .before .before .before .before .before .before .number in
     let a = c .before .before .before .before .before .before .before .before .before .before .args in
-    let e = number-is (a .how) (a .n) _ _ (a .number) (c .before .before .before .before .before .before .before .number .given .1) (c .before .before .before .before .before .figure .ensures) in
-    fits-next (a .out .now) _ (a .at) _ (uvarint (a .n * 8)) _ (c .before .before .before .emit-varint .ensures) (fits-same (a .at) _ _ e (c .before .before .before .before .before .before .before .before .before .before .pre .1))
+    let pre = c .before .before .before .before .before .before .before .before .before .before .pre in
+    let e = number-is (a .how) (a .n) _ _ (a .number) (number .given .1) (c .before .before .before .before .before .figure .ensures) in
+    fits-next (a .out .now) _ (a .at) _ (uvarint (a .n * 8)) _ (c .before .before .before .emit-varint .ensures) (fits-same (a .at) _ _ e (pre .1))
 
 returns : tie.Need-returns
 returns c =
@@ -42,9 +44,14 @@ same-length c = search needs
 
 returns-2 : tie.Need-returns-2
 returns-2 c =
-    let a = c .before .before .before .before .before .before .before .before .before .before .before .before .before .args in
-    let e = number-is (a .how) (a .n) _ _ (a .number) (c .before .before .before .before .before .before .before .before .before .before .number .given .1) (c .before .before .before .before .before .before .before .before .figure .ensures) in
-    puts-same (a .out .now) (a .at) _ _ _ _ (sym e) (puts-append (a .out .now) _ _ (a .at) _ _ _ _ (c .before .before .before .before .before .before .emit-varint .ensures) (c .before .before .emit-varint2 .ensures))
+    let figure = c .before .before .before .before .before .before .before .before .figure in
+    let number = c .before .before .before .before .before .before .before .before .before .before .number in
+    let b = c .before .before .before .before .before .before .before .before .before .before in
+    let a = b .before .before .before .args in
+    let e = number-is (a .how) (a .n) _ _ (a .number) (number .given .1) (figure .ensures) in
+    puts-same (a .out .now) (a .at) _ _ _ _ (sym e)
+    (puts-append (a .out .now) _ _ (a .at) _ _ _ _ (c .before .before .before .before .before .before .emit-varint .ensures)
+    (c .before .before .emit-varint2 .ensures))
 
 pub emit-number-spec : {M : Type 1} → statement M
 emit-number-spec =

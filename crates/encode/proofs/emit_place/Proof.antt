@@ -22,9 +22,13 @@ sub-emit-head c = c .before .before .before .before .before .pre .1 _ _ (c .befo
 emit-head-requires : tie.Need-emit-head-requires
 emit-head-requires c κs =
     let a = c .before .before .before .before .before .before .args in
-    let i = c .before .before .before .before .before .before .pre .1 _ _ (c .before .before .place .given .1) in
-    let e = place-is (a .n) _ _ (a .input .now) (a .place) (c .before .before .place .given .1) (i .0) (i .1) in
-    (c .before .before .before .before .before .before .pre .0, fits-first (a .at) (tag (a .n) 2 ++ uvarint (c .before .before .place .given .0 .1 .0 - c .before .before .place .given .0 .0)) _ (fits-same (a .at) _ _ e (c .before .before .before .before .before .before .pre .2)))
+    let pre = c .before .before .before .before .before .before .pre in
+    let i = pre .1 _ _ (c .before .before .place .given .1) in
+    let e = place-is (a .n) _ _ (a .input .now) (a .place) (c .before .before .place .given .1) (i .0) (i .1) in (
+      pre .0,
+      fits-first (a .at) (tag (a .n) 2 ++ uvarint (c .before .before .place .given .0 .1 .0 - c .before .before .place .given .0 .0))
+          _ (fits-same (a .at) _ _ e (pre .2)),
+    )
 
 sub-emit-bytes : tie.Need-sub-emit-bytes
 sub-emit-bytes c = c .before .before .before .before .before .before .before .before .before .pre .1 _ _ (c .before .before .before .before .before .place .given .1) .0
@@ -37,10 +41,12 @@ part-emit-bytes-end c = c .before .before .before .before .before .before .befor
 
 emit-bytes-requires : tie.Need-emit-bytes-requires
 emit-bytes-requires c κs =
+    let place = c .before .before .before .before .before .before .before .place in
     let a = c .before .before .before .before .before .before .before .before .before .before .before .args in
-    let i = c .before .before .before .before .before .before .before .before .before .before .before .pre .1 _ _ (c .before .before .before .before .before .before .before .place .given .1) in
-    let e = place-is (a .n) _ _ (a .input .now) (a .place) (c .before .before .before .before .before .before .before .place .given .1) (i .0) (i .1) in
-    fits-next (a .out .now) _ (a .at) _ _ _ (c .before .before .before .before .emit-head .ensures) (fits-same (a .at) _ _ e (c .before .before .before .before .before .before .before .before .before .before .before .pre .2))
+    let pre = c .before .before .before .before .before .before .before .before .before .before .before .pre in
+    let i = pre .1 _ _ (place .given .1) in
+    let e = place-is (a .n) _ _ (a .input .now) (a .place) (place .given .1) (i .0) (i .1) in
+    fits-next (a .out .now) _ (a .at) _ _ _ (c .before .before .before .before .emit-head .ensures) (fits-same (a .at) _ _ e (pre .2))
 
 returns : tie.Need-returns
 returns c =
@@ -52,10 +58,15 @@ same-length c = search needs
 
 returns-2 : tie.Need-returns-2
 returns-2 c =
-    let a = c .before .before .before .before .before .before .before .before .before .before .before .before .before .before .args in
-    let i = c .before .before .before .before .before .before .before .before .before .before .before .before .before .before .pre .1 _ _ (c .before .before .before .before .before .before .before .before .before .before .place .given .1) in
-    let e = place-is (a .n) _ _ (a .input .now) (a .place) (c .before .before .before .before .before .before .before .before .before .before .place .given .1) (i .0) (i .1) in
-    puts-same (a .out .now) (a .at) _ _ _ _ (sym e) (puts-append (a .out .now) _ _ (a .at) _ _ _ _ (c .before .before .before .before .before .before .before .emit-head .ensures) (c .before .before .emit-bytes .ensures))
+    let emit-head = c .before .before .before .before .before .before .before .emit-head in
+    let place = c .before .before .before .before .before .before .before .before .before .before .place in
+    let b = c .before .before .before .before .before .before .before .before .before .before .before .before .before .before in
+    let a = b .args in
+    let pre = b .pre in
+    let i = pre .1 _ _ (place .given .1) in
+    let e = place-is (a .n) _ _ (a .input .now) (a .place) (place .given .1) (i .0) (i .1) in
+    puts-same (a .out .now) (a .at) _ _ _ _ (sym e)
+    (puts-append (a .out .now) _ _ (a .at) _ _ _ _ (emit-head .ensures) (c .before .before .emit-bytes .ensures))
 
 pub emit-place-spec : {M : Type 1} → statement M
 emit-place-spec =

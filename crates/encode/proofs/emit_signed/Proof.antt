@@ -23,7 +23,10 @@ same-length c = search needs
 
 returns : tie.Need-returns
 unfolding signOf
-returns c = let a = (c .before .before .before .before .before .before .before .before .before .before .before .args) in puts-append (a .out .now) _ _ 0 _ _ signPrefix (canon Groups kind.RawMessage (a .part .now)) ((c .before .before .before .before .before .before .emit-bytes .ensures)) ((c .before .before .emit-message .ensures))
+returns c =
+    let a = c .before .before .before .before .before .before .before .before .before .before .before .args in
+    puts-append (a .out .now) _ _ 0 _ _ signPrefix (canon Groups kind.RawMessage (a .part .now))
+    ((c .before .before .before .before .before .before .emit-bytes .ensures)) ((c .before .before .emit-message .ensures))
 
 pub emit-signed-spec : {M : Type 1} → statement M
 emit-signed-spec =

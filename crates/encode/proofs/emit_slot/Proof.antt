@@ -14,15 +14,23 @@ slot-in-requires c κs = search needs
 
 emit-place-requires : tie.Need-emit-place-requires
 emit-place-requires c κs =
+    let pre = c .before .before .before .before .pre in
     let a = c .before .before .before .before .args in
-    let e = sym (c .before .slot-in .ensures) in
-    (c .before .before .before .before .pre .0, subst (PlaceInside (a .input .now)) e (slot-inside (a .input .now) (a .slots) (a .slot) (c .before .before .before .before .pre .1)), fits-same (a .at) _ _ (ap (placed (a .n) (a .input .now)) e) (c .before .before .before .before .pre .2))
+    let e = sym (c .before .slot-in .ensures) in (
+      pre .0,
+      subst (PlaceInside (a .input .now)) e (slot-inside (a .input .now) (a .slots) (a .slot) (pre .1)),
+      fits-same (a .at) _ _
+          (ap (placed (a .n) (a .input .now)) e) (pre .2),
+    )
 
 same-length : tie.Need-same-length
 same-length c = search needs
 
 returns : tie.Need-returns
-returns c = let a = c .before .before .before .before .before .before .before .args in puts-same (a .out .now) (a .at) _ _ _ _ (ap (placed (a .n) (a .input .now)) (c .before .before .before .before .slot-in .ensures)) (c .before .before .emit-place .ensures)
+returns c =
+    let a = c .before .before .before .before .before .before .before .args in
+    puts-same (a .out .now) (a .at) _ _ _ _ (ap (placed (a .n) (a .input .now)) (c .before .before .before .before .slot-in .ensures))
+    (c .before .before .emit-place .ensures)
 
 pub emit-slot-spec : {M : Type 1} → statement M
 emit-slot-spec = tie.close (tie.spec slot-in-requires emit-place-requires same-length returns)

@@ -20,7 +20,10 @@ same-length : tie.Need-same-length
 same-length c = search needs
 
 returns : tie.Need-returns
-returns c = let a = c .before .before .before .before .before .before .args in puts-set (a .out .now) (a .at) (uvarint (a .value)) _ _ (ap (λ (x : ℕ). a .at + x) (c .uvarint-len .ensures)) (c .before .before .before .put-uvarint .ensures .lent)
+returns c =
+    let a = c .before .before .before .before .before .before .args in
+    puts-set (a .out .now) (a .at) (uvarint (a .value)) _ _ (ap (λ (x : ℕ). a .at + x) (c .uvarint-len .ensures))
+    (c .before .before .before .put-uvarint .ensures .lent)
 
 pub emit-varint-spec : {M : Type 1} → statement M
 emit-varint-spec =

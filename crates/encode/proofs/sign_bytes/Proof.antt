@@ -32,13 +32,22 @@ enum-known-m-2 : tie.Need-enum-known-m-2
 enum-known-m-2 c = search needs
 
 sub-sign-part : tie.Need-sub-sign-part
-sub-sign-part c = message-inside (c .before .before .before .before .before .before .before .before .before .args .dialect .mode) (c .before .before .before .before .before .before .before .before .before .args .body .now) (c .before .before .before .before .before .before .before .before .before .args .index) _ _ (sym (c .before .before .before .message-at .ensures) ∙ c .before .m2 .given .1) .0
+sub-sign-part c =
+    let a = c .before .before .before .before .before .before .before .before .before .args in
+    message-inside (a .dialect .mode) (a .body .now) (a .index) _ _
+    (sym (c .before .before .before .message-at .ensures) ∙ c .before .m2 .given .1) .0
 
 part-sign-part-start : tie.Need-part-sign-part-start
-part-sign-part-start c = message-inside (c .before .before .before .before .before .before .before .before .before .args .dialect .mode) (c .before .before .before .before .before .before .before .before .before .args .body .now) (c .before .before .before .before .before .before .before .before .before .args .index) _ _ (sym (c .before .before .before .message-at .ensures) ∙ c .before .m2 .given .1) .0
+part-sign-part-start c =
+    let a = c .before .before .before .before .before .before .before .before .before .args in
+    message-inside (a .dialect .mode) (a .body .now) (a .index) _ _
+    (sym (c .before .before .before .message-at .ensures) ∙ c .before .m2 .given .1) .0
 
 part-sign-part-end : tie.Need-part-sign-part-end
-part-sign-part-end c = message-inside (c .before .before .before .before .before .before .before .before .before .args .dialect .mode) (c .before .before .before .before .before .before .before .before .before .args .body .now) (c .before .before .before .before .before .before .before .before .before .args .index) _ _ (sym (c .before .before .before .message-at .ensures) ∙ c .before .m2 .given .1) .1
+part-sign-part-end c =
+    let a = c .before .before .before .before .before .before .before .before .before .args in
+    message-inside (a .dialect .mode) (a .body .now) (a .index) _ _
+    (sym (c .before .before .before .message-at .ensures) ∙ c .before .m2 .given .1) .1
 
 sign-part-requires : tie.Need-sign-part-requires
 sign-part-requires c κs =
@@ -53,10 +62,16 @@ sign-part-requires c κs =
     )
 
 returns : tie.Need-returns
-returns c = let a = c .before .before .before .before .before .before .args in sign-refused (a .dialect) (a .body .now) (a .index) (a .out .now) _ (sym (c .before .before .before .accept .ensures) ∙ c .before .c .given .1)
+returns c =
+    let a = c .before .before .before .before .before .before .args in
+    sign-refused (a .dialect) (a .body .now) (a .index) (a .out .now) _ (sym (c .before .before .before .accept .ensures) ∙ c .before .c .given .1)
 
 returns-2 : tie.Need-returns-2
-returns-2 c = let a = c .before .before .before .before .before .before .before .before .before .args in sign-missing (a .dialect) (a .body .now) (a .index) (a .out .now) _ (sym (c .before .before .before .before .before .before .accept .ensures) ∙ c .before .before .before .before .enum-told .given .1) (sym (c .before .before .before .message-at .ensures) ∙ c .before .m .given .1)
+returns-2 c =
+    let a = c .before .before .before .before .before .before .before .before .before .args in
+    sign-missing (a .dialect) (a .body .now) (a .index) (a .out .now) _
+    (sym (c .before .before .before .before .before .before .accept .ensures) ∙ c .before .before .before .before .enum-told .given .1)
+    (sym (c .before .before .before .message-at .ensures) ∙ c .before .m .given .1)
 
 same-length : tie.Need-same-length
 same-length c = search needs

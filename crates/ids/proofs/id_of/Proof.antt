@@ -33,7 +33,15 @@ enum-told-2 : tie.Need-enum-told-2
 enum-told-2 c = search needs
 
 returns-4 : tie.Need-returns-4
-returns-4 c = simp ((c .before .before .before .before .before .before .from .given .1), (c .enum-told2 .given .1), ne-eqb _ _ (λ z. (c .before .before .before .if1 .left) ((c .before .before .before .before .span .ensures) ∙ z)), le-ltb _ _ (rw (c .before .before .before .before .span .ensures) at (c .before .before .if2 .left)))
+returns-4 c =
+    let span = c .before .before .before .before .span in
+    simp (
+      (c .before .before .before .before .before .before .from .given .1),
+      (c .enum-told2 .given .1),
+      ne-eqb _ _
+          (λ z. (c .before .before .before .if1 .left) ((span .ensures) ∙ z)),
+      le-ltb _ _ (rw (span .ensures) at (c .before .before .if2 .left)),
+    )
 
 span-requires-2 : tie.Need-span-requires-2
 span-requires-2 c κs = search needs

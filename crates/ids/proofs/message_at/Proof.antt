@@ -34,13 +34,19 @@ enum-told : tie.Need-enum-told Inv-loop μ-loop
 enum-told c = search needs
 
 returns : tie.Need-returns Inv-loop μ-loop
-returns c = let l = c .before .before .before .before .loop in sym (l .inv .2 ∙ found-end (c .before .before .before .before .before .before .args .mode) _ _ _ _ (sym (c .enum-told .given .1) ∙ c .before .before .read-field .ensures))
+returns c =
+    let l = c .before .before .before .before .loop in
+    let a = c .before .before .before .before .before .before .args in
+    sym (l .inv .2 ∙ found-end (a .mode) _ _ _ _ (sym (c .enum-told .given .1) ∙ c .before .before .read-field .ensures))
 
 enum-told-2 : tie.Need-enum-told-2 Inv-loop μ-loop
 enum-told-2 c = search needs
 
 returns-2 : tie.Need-returns-2 Inv-loop μ-loop
-returns-2 c = let l = c .before .before .before .before .loop in sym (l .inv .2 ∙ found-refused (c .before .before .before .before .before .before .args .mode) _ _ _ _ _ (sym (c .enum-told2 .given .1) ∙ c .before .before .read-field .ensures))
+returns-2 c =
+    let l = c .before .before .before .before .loop in
+    let a = c .before .before .before .before .before .before .args in
+    sym (l .inv .2 ∙ found-refused (a .mode) _ _ _ _ _ (sym (c .enum-told2 .given .1) ∙ c .before .before .read-field .ensures))
 
 enum-known-step : tie.Need-enum-known-step Inv-loop μ-loop
 enum-known-step c = search needs
@@ -49,32 +55,39 @@ is-it-requires : tie.Need-is-it-requires Inv-loop μ-loop
 is-it-requires c κs = search needs
 
 returns-3 : tie.Need-returns-3 Inv-loop μ-loop
-returns-3 c = let l = c .before .before .before .before .before .before .before .loop in sym (l .inv .2 ∙ found-here (c .before .before .before .before .before .before .before .before .before .args .mode) _ _ _ _ _ (sym (c .before .before .before .step .given .1) ∙ c .before .before .before .before .before .read-field .ensures) (sym (c .before .is-it .ensures) ∙ c .if1 .taken))
+returns-3 c =
+    let l = c .before .before .before .before .before .before .before .loop in
+    let a = c .before .before .before .before .before .before .before .before .before .args in
+    sym (l .inv .2 ∙ found-here (a .mode) _ _ _ _ _
+    (sym (c .before .before .before .step .given .1) ∙ c .before .before .before .before .before .read-field .ensures)
+    (sym (c .before .is-it .ensures) ∙ c .if1 .taken))
 
 messages-after-requires : tie.Need-messages-after-requires Inv-loop μ-loop
 messages-after-requires c κs = omega arith
 
 loop-less : tie.Need-loop-less Inv-loop μ-loop
 loop-less c =
+    let step = c .before .before .before .before .step in
+    let l = c .before .before .before .before .before .before .before .before .loop in
+    let a = c .before .before .before .before .before .before .before .before .before .before .args in
     omega (
       arith,
-      field-stands (c .before .before .before .before .before .before .before .before .before .before .args .mode) (c .before .before .before .before .before .before .before .before .before .before .args .body .now)
-          (c .before .before .before .before .before .before .before .before .loop .at) (c .before .before .before .before .step .given .0 .0)
-          (sym (c .before .before .before .before .step .given .1) ∙ c .before .before .before .before .before .before .read-field .ensures),
+      field-stands (a .mode) (a .body .now) (l .at) (step .given .0 .0)
+          (sym (step .given .1) ∙ c .before .before .before .before .before .before .read-field .ensures),
     )
 
 loop-again : tie.Need-loop-again Inv-loop μ-loop
 loop-again c =
+    let step = c .before .before .before .before .step in
+    let read-field = c .before .before .before .before .before .before .read-field in
     let l = c .before .before .before .before .before .before .before .before .loop in
-    let m = field-stands (c .before .before .before .before .before .before .before .before .before .before .args .mode) (c .before .before .before .before .before .before .before .before .before .before .args .body .now) (l .at) (c .before .before .before .before .step .given .0 .0) (sym (c .before .before .before .before .step .given .1) ∙ c .before .before .before .before .before .before .read-field .ensures) in
-    let k = at-most (isBytes 2 (c .before .before .before .before .step .given .0 .0)) (l .n) (c .messages-after .result) (c .messages-after .ensures) in (
+    let a = c .before .before .before .before .before .before .before .before .before .before .args in
+    let m = field-stands (a .mode) (a .body .now) (l .at) (step .given .0 .0) (sym (step .given .1) ∙ read-field .ensures) in
+    let k = at-most (isBytes 2 (step .given .0 .0)) (l .n) (c .messages-after .result) (c .messages-after .ensures) in (
       omega (arith, m .within),
       omega arith,
-      l .inv .2 ∙ found-later (c .before .before .before .before .before .before .before .before .before .before .args .mode) (c .before .before .before .before .before .before .before .before .before .before .args .body .now) (l .at)
-          (c .before .before .before .before .before .before .before .before .before .before .args .index) (l .n) (c .messages-after .result)
-          (c .before .before .before .before .step .given .0 .0) (sym (c .before .before .before .before .step .given .1)
-          ∙ c .before .before .before .before .before .before .read-field .ensures) (sym (c .before .before .is-it .ensures) ∙ c .before .if1 .left)
-          (c .messages-after .ensures),
+      l .inv .2 ∙ found-later (a .mode) (a .body .now) (l .at) (a .index) (l .n) (c .messages-after .result) (step .given .0 .0)
+          (sym (step .given .1) ∙ read-field .ensures) (sym (c .before .before .is-it .ensures) ∙ c .before .if1 .left) (c .messages-after .ensures),
     )
 
 returns-4 : tie.Need-returns-4 Inv-loop μ-loop

@@ -35,16 +35,26 @@ enum-known-id-2 : tie.Need-enum-known-id-2
 enum-known-id-2 c = search needs
 
 sub-total : tie.Need-sub-total
-sub-total c = id-fits (c .before .before .before .before .before .before .before .args .mode) (c .before .before .before .before .before .before .before .args .part .now) _ _ _ _ (sym (c .before .before .before .id-parts .ensures) ∙ c .before .id2 .given .1) .from .0
+sub-total c =
+    let a = c .before .before .before .before .before .before .before .args in
+    id-fits (a .mode) (a .part .now) _ _ _ _ (sym (c .before .before .before .id-parts .ensures) ∙ c .before .id2 .given .1) .from .0
 
 add-total : tie.Need-add-total
-add-total c = let h = id-fits (c .before .before .before .before .before .before .before .args .mode) (c .before .before .before .before .before .before .before .args .part .now) _ _ _ _ (sym (c .before .before .before .id-parts .ensures) ∙ c .before .id2 .given .1) in omega (arith, h .from-short)
+add-total c =
+    let a = c .before .before .before .before .before .before .before .args in
+    let h = id-fits (a .mode) (a .part .now) _ _ _ _ (sym (c .before .before .before .id-parts .ensures) ∙ c .before .id2 .given .1) in
+    omega (arith, h .from-short)
 
 sub-total-2 : tie.Need-sub-total-2
-sub-total-2 c = id-fits (c .before .before .before .before .before .before .before .args .mode) (c .before .before .before .before .before .before .before .args .part .now) _ _ _ _ (sym (c .before .before .before .id-parts .ensures) ∙ c .before .id2 .given .1) .seqno .0
+sub-total-2 c =
+    let a = c .before .before .before .before .before .before .before .args in
+    id-fits (a .mode) (a .part .now) _ _ _ _ (sym (c .before .before .before .id-parts .ensures) ∙ c .before .id2 .given .1) .seqno .0
 
 add-total-2 : tie.Need-add-total-2
-add-total-2 c = let h = id-fits (c .before .before .before .before .before .before .before .args .mode) (c .before .before .before .before .before .before .before .args .part .now) _ _ _ _ (sym (c .before .before .before .id-parts .ensures) ∙ c .before .id2 .given .1) in omega (arith, h .from-short, h .seqno-short)
+add-total-2 c =
+    let a = c .before .before .before .before .before .before .before .args in
+    let h = id-fits (a .mode) (a .part .now) _ _ _ _ (sym (c .before .before .before .id-parts .ensures) ∙ c .before .id2 .given .1) in
+    omega (arith, h .from-short, h .seqno-short)
 
 returns : tie.Need-returns
 returns c =
@@ -57,37 +67,55 @@ put-bytes-requires : tie.Need-put-bytes-requires
 put-bytes-requires c κs = search needs
 
 sub-put-bytes : tie.Need-sub-put-bytes
-sub-put-bytes c = id-fits (c .before .before .before .before .before .before .before .before .before .before .before .before .before .args .mode) (c .before .before .before .before .before .before .before .before .before .before .before .before .before .args .part .now) _ _ _ _ (sym (c .before .before .before .before .before .before .before .before .before .id-parts .ensures) ∙ c .before .before .before .before .before .before .before .id2 .given .1) .from .0
+sub-put-bytes c =
+    let id2 = c .before .before .before .before .before .before .before .id2 in
+    let id-parts = c .before .before .before .before .before .before .before .before .before .id-parts in
+    let b = c .before .before .before .before .before .before .before .before .before .before in
+    let a = b .before .before .before .args in
+    id-fits (a .mode) (a .part .now) _ _ _ _ (sym (id-parts .ensures) ∙ id2 .given .1) .from .0
 
 part-put-bytes-start : tie.Need-part-put-bytes-start
-part-put-bytes-start c = id-fits (c .before .before .before .before .before .before .before .before .before .before .before .before .before .args .mode) (c .before .before .before .before .before .before .before .before .before .before .before .before .before .args .part .now) _ _ _ _ (sym (c .before .before .before .before .before .before .before .before .before .id-parts .ensures) ∙ c .before .before .before .before .before .before .before .id2 .given .1) .from .0
+part-put-bytes-start c =
+    let id2 = c .before .before .before .before .before .before .before .id2 in
+    let id-parts = c .before .before .before .before .before .before .before .before .before .id-parts in
+    let b = c .before .before .before .before .before .before .before .before .before .before in
+    let a = b .before .before .before .args in
+    id-fits (a .mode) (a .part .now) _ _ _ _ (sym (id-parts .ensures) ∙ id2 .given .1) .from .0
 
 part-put-bytes-end : tie.Need-part-put-bytes-end
-part-put-bytes-end c = id-fits (c .before .before .before .before .before .before .before .before .before .before .before .before .before .args .mode) (c .before .before .before .before .before .before .before .before .before .before .before .before .before .args .part .now) _ _ _ _ (sym (c .before .before .before .before .before .before .before .before .before .id-parts .ensures) ∙ c .before .before .before .before .before .before .before .id2 .given .1) .from .1
+part-put-bytes-end c =
+    let id2 = c .before .before .before .before .before .before .before .id2 in
+    let id-parts = c .before .before .before .before .before .before .before .before .before .id-parts in
+    let b = c .before .before .before .before .before .before .before .before .before .before in
+    let a = b .before .before .before .args in
+    id-fits (a .mode) (a .part .now) _ _ _ _ (sym (id-parts .ensures) ∙ id2 .given .1) .from .1
 
 put-bytes-requires-2 : tie.Need-put-bytes-requires-2
 put-bytes-requires-2 c κs = search needs
 
 sub-put-bytes-2 : tie.Need-sub-put-bytes-2
 sub-put-bytes-2 c =
-    id-fits (c .before .before .before .before .before .before .before .before .before .before .before .before .before .before .before .before .before .before .args .mode) (c .before .before .before .before .before .before .before .before .before .before .before .before .before .before .before .before .before .before
-    .args .part .now) _ _ _ _
-    (sym (c .before .before .before .before .before .before .before .before .before .before .before .before .before .before .id-parts .ensures)
-    ∙ c .before .before .before .before .before .before .before .before .before .before .before .before .id2 .given .1) .seqno .0
+    let b = c .before .before .before .before .before .before .before .before .before .before in
+    let id2 = b .before .before .id2 in
+    let id-parts = b .before .before .before .before .id-parts in
+    let a = b .before .before .before .before .before .before .before .before .args in
+    id-fits (a .mode) (a .part .now) _ _ _ _ (sym (id-parts .ensures) ∙ id2 .given .1) .seqno .0
 
 part-put-bytes-start-2 : tie.Need-part-put-bytes-start-2
 part-put-bytes-start-2 c =
-    id-fits (c .before .before .before .before .before .before .before .before .before .before .before .before .before .before .before .before .before .before .args .mode) (c .before .before .before .before .before .before .before .before .before .before .before .before .before .before .before .before .before .before
-    .args .part .now) _ _ _ _
-    (sym (c .before .before .before .before .before .before .before .before .before .before .before .before .before .before .id-parts .ensures)
-    ∙ c .before .before .before .before .before .before .before .before .before .before .before .before .id2 .given .1) .seqno .0
+    let b = c .before .before .before .before .before .before .before .before .before .before in
+    let id2 = b .before .before .id2 in
+    let id-parts = b .before .before .before .before .id-parts in
+    let a = b .before .before .before .before .before .before .before .before .args in
+    id-fits (a .mode) (a .part .now) _ _ _ _ (sym (id-parts .ensures) ∙ id2 .given .1) .seqno .0
 
 part-put-bytes-end-2 : tie.Need-part-put-bytes-end-2
 part-put-bytes-end-2 c =
-    id-fits (c .before .before .before .before .before .before .before .before .before .before .before .before .before .before .before .before .before .before .args .mode) (c .before .before .before .before .before .before .before .before .before .before .before .before .before .before .before .before .before .before
-    .args .part .now) _ _ _ _
-    (sym (c .before .before .before .before .before .before .before .before .before .before .before .before .before .before .id-parts .ensures)
-    ∙ c .before .before .before .before .before .before .before .before .before .before .before .before .id2 .given .1) .seqno .1
+    let b = c .before .before .before .before .before .before .before .before .before .before in
+    let id2 = b .before .before .id2 in
+    let id-parts = b .before .before .before .before .id-parts in
+    let a = b .before .before .before .before .before .before .before .before .args in
+    id-fits (a .mode) (a .part .now) _ _ _ _ (sym (id-parts .ensures) ∙ id2 .given .1) .seqno .1
 
 put-bytes-requires-3 : tie.Need-put-bytes-requires-3
 put-bytes-requires-3 c κs = search needs
@@ -115,13 +143,21 @@ same-length c = search needs
 
 returns-5 : tie.Need-returns-5
 returns-5 c =
-    let a = c .before .before .before .before .before .before .before .before .before .before .before .before .before .before .before .before .before .before .before .before .before .before .args in
-    let e = sym (c .before .before .before .before .before .before .before .before .before .before .before .before .before .before .before .before .before .before .id-parts .ensures) ∙ c .before .before .before .before .before .before .before .before .before .before .before .before .before .before .before .before .id2 .given .1 in
+    let put-bytes2 = c .before .before .before .before .before .before .before .put-bytes2 in
+    let b = c .before .before .before .before .before .before .before .before .before .before in
+    let put-bytes = b .before .before .put-bytes in
+    let if1 = b .before .before .before .before .if1 in
+    let id2 = b .before .before .before .before .before .before .id2 in
+    let id-parts = b .before .before .before .before .before .before .before .before .id-parts in
+    let b2 = b .before .before .before .before .before .before .before .before .before .before in
+    let a = b2 .before .before .args in
+    let e = sym (id-parts .ensures) ∙ id2 .given .1 in
     let s = id-put (a .before .now) (a .part .now) (a .out .now) _ _ _ _ _ _ _ _ _ _ (id-fits (a .mode) (a .part .now) _ _ _ _ e)
-    (c .before .before .before .before .before .before .before .before .before .before .before .before .before .before .if1 .left)
-    (c .before .before .before .before .before .before .before .before .before .before .before .before .put-bytes .ensures)
-    (c .before .before .before .before .before .before .before .put-bytes2 .ensures) (c .before .before .put-bytes3 .ensures) in
-    (s .0 ∙ ap (answerId (a .before .now) (a .part .now) (a .out .now)) (sym e), s .1 ∙ ap (leftId (a .before .now) (a .part .now) (a .out .now)) (sym e))
+    (if1 .left) (put-bytes .ensures) (put-bytes2 .ensures) (c .before .before .put-bytes3 .ensures) in (
+      s .0 ∙ ap (answerId (a .before .now) (a .part .now) (a .out .now)) (sym e),
+      s .1 ∙ ap
+          (leftId (a .before .now) (a .part .now) (a .out .now)) (sym e),
+    )
 
 pub put-id-spec : {M : Type 1} → statement M
 put-id-spec =

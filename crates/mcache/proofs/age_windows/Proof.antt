@@ -35,7 +35,13 @@ loop-less : tie.Need-loop-less Inv-loop μ-loop
 loop-less c = omega (arith, (c .before .before .before .loop .inv .0))
 
 loop-again : tie.Need-loop-again Inv-loop μ-loop
-loop-again c = (simp length-set (c .before .before .before .loop .inv .0), aging-more (now (c .before .before .before .before .before .args .window)) (c .before .before .before .loop .window) (c .before .before .before .loop .i) (c .older-than .result) (omega (arith, (c .before .before .before .loop .inv .0))) (c .before .before .before .loop .inv .1) (c .older-than .ensures))
+loop-again c =
+    let l = c .before .before .before .loop in
+    let a = c .before .before .before .before .before .args in (
+      simp length-set (l .inv .0),
+      aging-more (now (a .window)) (l .window) (l .i) (c .older-than .result) (omega (arith, (l .inv .0)))
+          (l .inv .1) (c .older-than .ensures),
+    )
 
 same-length : tie.Need-same-length Inv-loop μ-loop
 same-length c = search needs

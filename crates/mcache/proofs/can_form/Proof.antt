@@ -19,7 +19,10 @@ has-room-requires : tie.Need-has-room-requires
 has-room-requires c κs = search needs
 
 returns-5 : tie.Need-returns-5
-returns-5 c = let a = c .before .before .before .before .before .args in form-room (a .n) (a .a) (a .e) (a .b) (a .f) (a .m) (c .before .before .before .before .if1 .left) (c .before .before .before .if2 .left) (c .before .before .if3 .left) (c .before .if4 .left) (c .has-room .result) (c .has-room .ensures)
+returns-5 c =
+    let a = c .before .before .before .before .before .args in
+    form-room (a .n) (a .a) (a .e) (a .b) (a .f) (a .m) (c .before .before .before .before .if1 .left)
+    (c .before .before .before .if2 .left) (c .before .before .if3 .left) (c .before .if4 .left) (c .has-room .result) (c .has-room .ensures)
 
 pub can-form-spec : {M : Type 1} → statement M
 can-form-spec = tie.close (tie.spec returns returns-2 returns-3 returns-4 has-room-requires returns-5)

@@ -24,7 +24,11 @@ place-requires : tie.Need-place-requires Inv-loop μ-loop
 place-requires c κs = search needs
 
 mul-wrapping-sub-u64 : tie.Need-mul-wrapping-sub-u64 Inv-loop μ-loop
-mul-wrapping-sub-u64 c = let l = place-lt (c .before .before .before .before .before .args .ring) (c .before .before .before .loop .i) (c .before .before .before .before .before .pre .starts) (omega (arith, (c .before .before .before .before .before .pre .within))) in let e = (c .place .ensures) in omega (arith, (c .before .before .before .before .before .pre .size))
+mul-wrapping-sub-u64 c =
+    let a = c .before .before .before .before .before .args in
+    let pre = c .before .before .before .before .before .pre in
+    let l = place-lt (a .ring) (c .before .before .before .loop .i) (pre .starts) (omega (arith, (pre .within))) in
+    let e = (c .place .ensures) in omega (arith, (pre .size))
 
 shared-slice-read-wrapping-sub-u64 : tie.Need-shared-slice-read-wrapping-sub-u64 Inv-loop μ-loop
 shared-slice-read-wrapping-sub-u64 c = let l = place-lt (c .before .before .before .before .before .before .args .ring)

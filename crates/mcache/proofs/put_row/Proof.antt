@@ -43,7 +43,10 @@ same-length : tie.Need-same-length Inv-loop μ-loop
 same-length c = search needs
 
 returns : tie.Need-returns Inv-loop μ-loop
-returns c = let e : (c .before .loop .i) ≡ (c .before .before .args .n) + 1 = omega arith in half-done (c .before .before .args .at) (c .before .before .args .p) (now (c .before .before .args .rows)) (c .before .loop .rows) (c .before .loop .v) (c .before .before .args .n) (c .before .before .pre .0) (c .before .before .pre .1) (rw e at (c .before .loop .inv .3))
+returns c =
+    let a = c .before .before .args in
+    let e : (c .before .loop .i) ≡ (a .n) + 1 = omega arith in half-done (a .at) (a .p) (now (a .rows)) (c .before .loop .rows)
+    (c .before .loop .v) (a .n) (c .before .before .pre .0) (c .before .before .pre .1) (rw e at (c .before .loop .inv .3))
 
 pub put-row-spec : {M : Type 1} → statement M
 put-row-spec =

@@ -27,9 +27,14 @@ same-length c = search needs
 
 returns : tie.Need-returns
 returns c =
+    let spot = c .before .before .before .before .spot in
     let a = c .before .before .before .before .before .before .before .before .before .before .args in
-    rw (c .before .before .before .before .before .before .if1 .taken)
-    (refl, told-put (idAt messageIdSize (now (a .id-lens)) (now (a .ids))) (a .p) (a .n) (c .before .before .before .before .spot .result) (now (a .rows)) _ (c .before .before .before .before .before .before .before .before .before .before .pre .0) (c .before .before .before .before .spot .ensures) (c .before .before .put-row .ensures))
+    let pre = c .before .before .before .before .before .before .before .before .before .before .pre in
+    rw (c .before .before .before .before .before .before .if1 .taken) (
+      refl,
+      told-put (idAt messageIdSize (now (a .id-lens)) (now (a .ids))) (a .p) (a .n) (spot .result) (now (a .rows)) _ (pre .0)
+          (spot .ensures) (c .before .before .put-row .ensures),
+    )
 
 returns-2 : tie.Need-returns-2
 returns-2 c = rw (c .if1 .left) (refl, refl)

@@ -72,12 +72,14 @@ loop-less : tie.Need-loop-less Inv-loop μ-loop
 loop-less c = search needs
 
 loop-again : tie.Need-loop-again Inv-loop μ-loop
-loop-again c = let m = (c .before .before .before .before .before .before .before .before .before .loop) in
-    let room = found-room _ _ _ _ _ _ _ _ _ _ (m .inv .0) _ (c .before .before .before .before .before .before .before .before .loop-test .taken) (c .before .before .before .before .before .before .before .before .before .before .before .before .before .before .before .before .pre .1 .1 .1) (m .inv .1) in
+loop-again c =
+    let loop-test = c .before .before .before .before .before .before .before .before .loop-test in
+    let m = c .before .before .before .before .before .before .before .before .before .loop in
+    let b = c .before .before .before .before .before .before .before .before .before .before in
+    let pre = b .before .before .before .before .before .before .pre in
+    let room = found-room _ _ _ _ _ _ _ _ _ _ (m .inv .0) _ (loop-test .taken) (pre .1 .1 .1) (m .inv .1) in
     let q = m .inv .1 in (
-      found-turn _ _ _ _ _ _ _ _ _ _ (m .inv .0) (c .before .before .before .before .before .before .before .before .loop-test .taken)
-          (c .before .before .before .before .before .before .before .before .before .before .before .before .before .before .before .before .pre .0)
-          (c .before .before .before .before .before .before .before .before .before .before .before .before .before .before .before .before .pre .1 .0 .2) room _
+      found-turn _ _ _ _ _ _ _ _ _ _ (m .inv .0) (loop-test .taken) (pre .0) (pre .1 .0 .2) room _
           (c .before .before .before .before .find-from .ensures) _ _ (c .before .before .add-message .ensures),
       omega arith,
     )

@@ -14,13 +14,30 @@ slice-aggregate-emit-ids : tie.Need-slice-aggregate-emit-ids
 slice-aggregate-emit-ids c = search needs
 
 emit-ids-requires : tie.Need-emit-ids-requires
-emit-ids-requires c κs = let b = c .before .before .before .before .before .before in let a = b .args in ((b .pre .0), ((b .pre .1 .0), ids-fit (now (a .topic)) (idsLeft (a .n) (now (a .rows)) (now (a .id-lens)) (now (a .ids)) 0) (a .at) _ (advertisement-bytes (now (a .topic)) (map (idAt 128 (now (a .id-lens)) (now (a .ids))) (take (a .n) (now (a .rows))))) (b .pre .1 .1)))
+emit-ids-requires c κs =
+    let b = c .before .before .before .before .before .before in
+    let a = b .args in (
+      (b .pre .0),
+      (
+        (b .pre .1 .0),
+        ids-fit (now (a .topic))
+            (idsLeft (a .n) (now (a .rows)) (now (a .id-lens)) (now (a .ids)) 0) (a .at) _
+            (advertisement-bytes (now (a .topic)) (map (idAt 128 (now (a .id-lens)) (now (a .ids))) (take (a .n) (now (a .rows))))) (b .pre .1 .1),
+      ),
+    )
 
 slice-aggregate-emit-head : tie.Need-slice-aggregate-emit-head
 slice-aggregate-emit-head c = search needs
 
 emit-head-requires : tie.Need-emit-head-requires
-emit-head-requires c κs = let b = c .before .before .before .before .before .before .before .before .before in let a = b .args in (omega arith, topic-fits (now (a .topic)) (idsLeft (a .n) (now (a .rows)) (now (a .id-lens)) (now (a .ids)) 0) (a .at) _ (advertisement-bytes (now (a .topic)) (map (idAt 128 (now (a .id-lens)) (now (a .ids))) (take (a .n) (now (a .rows))))) (b .pre .1 .1))
+emit-head-requires c κs =
+    let b = c .before .before .before .before .before .before .before .before .before in
+    let a = b .args in (
+      omega arith,
+      topic-fits (now (a .topic)) (idsLeft (a .n) (now (a .rows)) (now (a .id-lens)) (now (a .ids)) 0)
+          (a .at) _ (advertisement-bytes (now (a .topic)) (map (idAt 128 (now (a .id-lens)) (now (a .ids))) (take (a .n) (now (a .rows)))))
+          (b .pre .1 .1),
+    )
 
 add-topic-end : tie.Need-add-topic-end
 add-topic-end c = let b = c .before .before .before .before .before .before .before .before .before .before .before in let a = b .args in

@@ -26,13 +26,25 @@ cast-p : tie.Need-cast-p Inv-loop μ-loop
 cast-p c = omega (arith, (c .shared-slice-known4 .given) (c .before .before .loop .i))
 
 shared-slice-read-len : tie.Need-shared-slice-read-len Inv-loop μ-loop
-shared-slice-read-len c = let b = c .before .before .before .before .before .before .before .before in let a = b .args in let w = id-lies (a .n) (now (a .rows)) (now (a .id-lens)) (now (a .ids)) (c .before .before .before .loop .i) (b .pre .1 .0) (b .pre .0) (c .before .before .loop-test .taken) in omega (arith, w .0, w .1, w .2, w .3)
+shared-slice-read-len c =
+    let b = c .before .before .before .before .before .before .before .before in
+    let a = b .args in
+    let w = id-lies (a .n) (now (a .rows)) (now (a .id-lens)) (now (a .ids)) (c .before .before .before .loop .i)
+    (b .pre .1 .0) (b .pre .0) (c .before .before .loop-test .taken) in omega (arith, w .0, w .1, w .2, w .3)
 
 cast-len : tie.Need-cast-len Inv-loop μ-loop
-cast-len c = let b = c .before .before .before .before .before .before .before .before in let a = b .args in let w = id-lies (a .n) (now (a .rows)) (now (a .id-lens)) (now (a .ids)) (c .before .before .before .loop .i) (b .pre .1 .0) (b .pre .0) (c .before .before .loop-test .taken) in omega (arith, w .0, w .1, w .2, w .3)
+cast-len c =
+    let b = c .before .before .before .before .before .before .before .before in
+    let a = b .args in
+    let w = id-lies (a .n) (now (a .rows)) (now (a .id-lens)) (now (a .ids)) (c .before .before .before .loop .i)
+    (b .pre .1 .0) (b .pre .0) (c .before .before .loop-test .taken) in omega (arith, w .0, w .1, w .2, w .3)
 
 mul-base : tie.Need-mul-base Inv-loop μ-loop
-mul-base c = let b = c .before .before .before .before .before .before .before .before in let a = b .args in let w = id-lies (a .n) (now (a .rows)) (now (a .id-lens)) (now (a .ids)) (c .before .before .before .loop .i) (b .pre .1 .0) (b .pre .0) (c .before .before .loop-test .taken) in omega (arith, w .0, w .1, w .2, w .3)
+mul-base c =
+    let b = c .before .before .before .before .before .before .before .before in
+    let a = b .args in
+    let w = id-lies (a .n) (now (a .rows)) (now (a .id-lens)) (now (a .ids)) (c .before .before .before .loop .i)
+    (b .pre .1 .0) (b .pre .0) (c .before .before .loop-test .taken) in omega (arith, w .0, w .1, w .2, w .3)
 
 emit-head-requires : tie.Need-emit-head-requires Inv-loop μ-loop
 emit-head-requires c κs = let b = c .before .before .before .before .before .before .before .before .before in let a = b .args in (
@@ -76,7 +88,8 @@ loop-less c = search needs
 loop-again : tie.Need-loop-again Inv-loop μ-loop
 loop-again c = let b =
     c .before .before .before .before .before .before .before .before .before .before .before .before .before .before .before .before .before in
-    let a = b .args in let k = (c .before .before .before .before .before .before .before .before .before .before .before .before .loop .inv .2) in (
+    let a = b .args in
+    let k = (c .before .before .before .before .before .before .before .before .before .before .before .before .loop .inv .2) in (
       omega arith,
       ids-more (a .n) (now (a .rows)) (now (a .id-lens)) (now (a .ids))
           (c .before .before .before .before .before .before .before .before .before .before .before .before .loop .i) (b .pre .1 .0) (b .pre .0)

@@ -13,13 +13,21 @@ slice-aggregate-emit-parts : tie.Need-slice-aggregate-emit-parts
 slice-aggregate-emit-parts c = search needs
 
 emit-parts-requires : tie.Need-emit-parts-requires
-emit-parts-requires c κs = let a = (c .before .before .before .before .args) in let p = partsIn (a .body .now) (a .table .now) (a .n) in ((c .before .before .before .before .pre .0), (omega arith, ids-fit (a .at) (repeated (bytesField 1) p) _ (request-bytes p) (c .before .before .before .before .pre .1)))
+emit-parts-requires c κs =
+    let pre = c .before .before .before .before .pre in
+    let a = c .before .before .before .before .args in
+    let p = partsIn (a .body .now) (a .table .now) (a .n) in
+    ((pre .0), (omega arith, ids-fit (a .at) (repeated (bytesField 1) p) _ (request-bytes p) (pre .1)))
 
 slice-aggregate-emit-head : tie.Need-slice-aggregate-emit-head
 slice-aggregate-emit-head c = search needs
 
 emit-head-requires : tie.Need-emit-head-requires
-emit-head-requires c κs = let a = (c .before .before .before .before .before .before .before .args) in let p = partsIn (a .body .now) (a .table .now) (a .n) in (omega arith, entry-head-fits (a .at) (repeated (bytesField 1) p) _ (request-bytes p) (c .before .before .before .before .before .before .before .pre .1) _ _ _ (c .before .before .emit-parts .ensures))
+emit-head-requires c κs =
+    let a = c .before .before .before .before .before .before .before .args in
+    let pre = c .before .before .before .before .before .before .before .pre in
+    let p = partsIn (a .body .now) (a .table .now) (a .n) in
+    (omega arith, entry-head-fits (a .at) (repeated (bytesField 1) p) _ (request-bytes p) (pre .1) _ _ _ (c .before .before .emit-parts .ensures))
 
 add-entry : tie.Need-add-entry
 add-entry c = let a = (c .before .before .before .before .before .before .before .before .before .args) in

@@ -23,7 +23,10 @@ same-length : tie.Need-same-length
 same-length c = search needs
 
 returns-2 : tie.Need-returns-2
-returns-2 c = let a = c .before .before .before .before .before .before .before .before .before .before .before .args in id-wrote (a .self) (a .row) (now (a .out)) _ (c .before .before .before .before .before .id-at .ensures) (c .before .before .before .before .if1 .left) _ (c .before .before .put-bytes .ensures .lent)
+returns-2 c =
+    let a = c .before .before .before .before .before .before .before .before .before .before .before .args in
+    id-wrote (a .self) (a .row) (now (a .out)) _ (c .before .before .before .before .before .id-at .ensures)
+    (c .before .before .before .before .if1 .left) _ (c .before .before .put-bytes .ensures .lent)
 
 pub id-at-spec : {M : Type 1} → statement M
 id-at-spec = tie.close (tie.spec slice-aggregate-id-at slice-aggregate-id-at-2 id-at-requires returns put-bytes-requires same-length returns-2)

@@ -57,33 +57,48 @@ slice-aggregate-enter-2 c = search needs
 
 enter-requires : tie.Need-enter-requires
 enter-requires c κs =
-    let a = c .before .before .before .before .before .before .before .before .before .before .before .before .before .before .before .before .before .before .before .args in
-    let g = c .before .before .before .before .before .before .before .before .before .before .before .before .before .before .before .before .before .before .before .good .0 in
-    let k = (rw (c .before .before .before .before .before .before .before .before .before .before .before .before .before .before .before .ring .ensures) at
-    (sym (c .before .before .before .before .before .before .before .before .before .before .before .before .before .before .can-keep .ensures) ∙ c .before .before .before .before .before .before .before .before .before .before .before .before .before .if1 .taken)) in
-    let found = rw (c .before .before .before .before .before .before .before .before .before .mode-of .ensures) at (c .before .before .before .before .before .before .topics-of .ensures) in
+    let least = c .before .before .before .least in
+    let topics-of = c .before .before .before .before .before .before .topics-of in
+    let mode-of = c .before .before .before .before .before .before .before .before .before .mode-of in
+    let b = c .before .before .before .before .before .before .before .before .before .before in
+    let if1 = b .before .before .before .if1 in
+    let can-keep = b .before .before .before .before .can-keep in
+    let ring = b .before .before .before .before .before .ring in
+    let a = b .before .before .before .before .before .before .before .before .before .args in
+    let good = b .before .before .before .before .before .before .before .before .before .good in
+    let g = good .0 in
+    let k = (rw (ring .ensures) at (sym (can-keep .ensures) ∙ if1 .taken)) in
+    let found = rw (mode-of .ensures) at (topics-of .ensures) in
     let s = kept-short (a .self) (now (a .store)) (now (a .part)) (now (a .id)) k in (
       kept-placed (a .self) (now (a .store)) (now (a .part)) (now (a .id)) k
-          (length-unmapped ℕ (a .self .generation) 64 (g .1 .1 .1 .1 .1 .1 .1 .0 .1 .0 .1)) (length-unmapped ℕ (a .self .window) 64 (g .1 .1 .1 .1 .1
-          .1 .1 .1 .0 .1 .0 .1)) (length-unmapped ℕ (a .self .len) 64 (g .1 .1 .1 .1 .1 .1 .1 .1 .1 .0 .1 .0 .1))
-          (length-unmapped ℕ (a .self .«id_len») 64 (g .1 .1 .1 .1 .1 .1 .1 .1 .1 .1 .0 .1 .0 .1)) (length-unmapped ℕ (a .self .ids) 8192 (g .1 .1 .1
-          .1 .1 .1 .1 .1 .1 .1 .1 .0 .1 .0 .1))
-          (roomy (a .self) (length-unmapped ℕ (a .self .«topic_count») 64 (g .1 .1 .1 .1 .1 .1 .1 .1 .1 .1 .1 .1 .0 .1 .0 .1)) (length-unmapped ℕ (a
-          .self .«topic_start») 256 (g .1 .1 .1 .1 .1 .1 .1 .1 .1 .1 .1 .1 .1 .0 .1 .0 .1)) (length-unmapped ℕ (a .self .«topic_len») 256 (g .1 .1
-          .1 .1 .1 .1 .1 .1 .1 .1 .1 .1 .1 .1 .0 .1 .0 .1))),
+          (length-unmapped ℕ (a .self .generation) 64 (g .1 .1 .1 .1 .1 .1 .1 .0 .1 .0 .1))
+          (length-unmapped ℕ (a .self .window) 64 (g .1 .1 .1 .1 .1 .1 .1 .1 .0 .1 .0 .1))
+          (length-unmapped ℕ (a .self .len) 64 (g .1 .1 .1 .1 .1 .1 .1 .1 .1 .0 .1 .0 .1))
+          (length-unmapped ℕ (a .self .«id_len») 64 (g .1 .1 .1 .1 .1 .1 .1 .1 .1 .1 .0 .1 .0 .1))
+          (length-unmapped ℕ (a .self .ids) 8192 (g .1 .1 .1 .1 .1 .1 .1 .1 .1 .1 .1 .0 .1 .0 .1))
+          (roomy (a .self) (length-unmapped ℕ (a .self .«topic_count») 64 (g .1 .1 .1 .1 .1 .1 .1 .1 .1 .1 .1 .1 .0 .1 .0 .1))
+          (length-unmapped ℕ (a .self .«topic_start») 256 (g .1 .1 .1 .1 .1 .1 .1 .1 .1 .1 .1 .1 .1 .0 .1 .0 .1))
+          (length-unmapped ℕ (a .self .«topic_len») 256 (g .1 .1 .1 .1 .1 .1 .1 .1 .1 .1 .1 .1 .1 .1 .0 .1 .0 .1))),
       (
         s,
         record {
-          counts = kept-length (modeOf (a .self .flags)) (now (c .before .before .before .before .before .before .before .before .before .before .before .before .before .before .before .before .before .before .before .args .part)) (c .before .before .before .before .before .before .topics-of .result .count) (c .before .before .before .least .result) (counts-places (modeOf (a .self .flags)) (now (c .before .before .before .before .before .before .before .before .before .before .before .before .before .before .before .before .before .before .before .args .part)) (found .topics)) (c .before .before .before .least .ensures);
-          starts = kept-values (modeOf (a .self .flags)) (now (c .before .before .before .before .before .before .before .before .before .before .before .before .before .before .before .before .before .before .before .args .part)) (c .before .before .before .before .before .before .topics-of .result .count) (c .before .before .before .least .result) (counts-places (modeOf (a .self .flags)) (now (c .before .before .before .before .before .before .before .before .before .before .before .before .before .before .before .before .before .before .before .args .part)) (found .topics)) (c .before .before .before .least .ensures) (λ (s : Span). s .start) _ _ refl (found .starts);
-          sizes = kept-values (modeOf (a .self .flags)) (now (c .before .before .before .before .before .before .before .before .before .before .before .before .before .before .before .before .before .before .before .args .part)) (c .before .before .before .before .before .before .topics-of .result .count) (c .before .before .before .least .result) (counts-places (modeOf (a .self .flags)) (now (c .before .before .before .before .before .before .before .before .before .before .before .before .before .before .before .before .before .before .before .args .part)) (found .topics)) (c .before .before .before .least .ensures) (λ (s : Span). s .size) _ _ refl (found .sizes);
-          starts-room = omega (arith, c .before .before .before .least .ensures);
-          sizes-room = omega (arith, c .before .before .before .least .ensures);
-          starts-small = λ i h. let q = kept-below (modeOf (a .self .flags)) (now (c .before .before .before .before .before .before .before .before .before .before .before .before .before .before .before .before .before .before .before .args .part)) (c .before .before .before .before .before .before .topics-of
-              .result .count) (c .before .before .before .least .result) (counts-places (modeOf (a .self .flags)) (now (c .before .before .before .before .before .before .before .before .before .before .before .before .before .before .before .before .before .before .before .args .part)) (found .topics)) (c .before .before .before .least .ensures) (λ (s : Span). s .start) _ _ refl (found .starts) _ (starts-within (modeOf (a .self .flags)) (now (c .before .before .before .before .before .before .before .before .before .before .before .before .before .before .before .before .before .before .before .args .part))) i h in
+          counts = kept-length (modeOf (a .self .flags)) (now (a .part)) (topics-of .result .count) (least .result)
+              (counts-places (modeOf (a .self .flags)) (now (a .part)) (found .topics)) (least .ensures);
+          starts = kept-values (modeOf (a .self .flags)) (now (a .part)) (topics-of .result .count) (least .result)
+              (counts-places (modeOf (a .self .flags)) (now (a .part)) (found .topics)) (least .ensures) (λ (s : Span). s .start) _ _ refl
+              (found .starts);
+          sizes = kept-values (modeOf (a .self .flags)) (now (a .part)) (topics-of .result .count) (least .result)
+              (counts-places (modeOf (a .self .flags)) (now (a .part)) (found .topics)) (least .ensures) (λ (s : Span). s .size) _ _ refl
+              (found .sizes);
+          starts-room = omega (arith, least .ensures);
+          sizes-room = omega (arith, least .ensures);
+          starts-small = λ i h. let q = kept-below (modeOf (a .self .flags)) (now (a .part)) (topics-of .result .count) (least .result)
+              (counts-places (modeOf (a .self .flags)) (now (a .part)) (found .topics)) (least .ensures) (λ (s : Span). s .start) _ _ refl
+              (found .starts) _ (starts-within (modeOf (a .self .flags)) (now (a .part))) i h in
               omega (arith, s .0);
-          sizes-small = λ i h. let q = kept-below (modeOf (a .self .flags)) (now (c .before .before .before .before .before .before .before .before .before .before .before .before .before .before .before .before .before .before .before .args .part)) (c .before .before .before .before .before .before .topics-of
-              .result .count) (c .before .before .before .least .result) (counts-places (modeOf (a .self .flags)) (now (c .before .before .before .before .before .before .before .before .before .before .before .before .before .before .before .before .before .before .before .args .part)) (found .topics)) (c .before .before .before .least .ensures) (λ (s : Span). s .size) _ _ refl (found .sizes) _ (sizes-within (modeOf (a .self .flags)) (now (c .before .before .before .before .before .before .before .before .before .before .before .before .before .before .before .before .before .before .before .args .part))) i h in
+          sizes-small = λ i h. let q = kept-below (modeOf (a .self .flags)) (now (a .part)) (topics-of .result .count) (least .result)
+              (counts-places (modeOf (a .self .flags)) (now (a .part)) (found .topics)) (least .ensures) (λ (s : Span). s .size) _ _ refl
+              (found .sizes) _ (sizes-within (modeOf (a .self .flags)) (now (a .part))) i h in
               omega (arith, s .0);
         },
       ),
@@ -93,9 +108,17 @@ same-length : tie.Need-same-length
 same-length c = search needs
 
 returns-2 : tie.Need-returns-2
-returns-2 c = let a = c .before .before .before .before .before .before .before .before .before .before .before .before .before .before .before .before .before .before .before .before .before .before .args in under-new (a .self) (now (a .store)) (now (a .part)) (now (a .id)) (rw (c .before .before .before .before .before .before .before .before .before .before .before .before .before .before .before .before .before .before .ring .ensures) at (sym (c .before .before .before .before .before .before .before .before .before .before .before .before .before .before .before .before .before .can-keep
-    .ensures) ∙ c .before .before .before .before .before .before .before .before .before .before .before .before .before .before .before .before .if1
-    .taken)) (c .before .before .before .before .before .before .before .before .before .before .before .before .before .before .before .find .result) (c .before .before .before .before .before .before .before .before .before .before .before .before .before .before .before .find .ensures) (c .before .before .before .before .before .before .before .before .before .before .before .before .before .if2 .left) _ _ (c .before .before .enter .ensures)
+returns-2 c =
+    let b = c .before .before .before .before .before .before .before .before .before .before in
+    let if2 = b .before .before .before .if2 in
+    let find = b .before .before .before .before .before .find in
+    let if1 = b .before .before .before .before .before .before .if1 in
+    let can-keep = b .before .before .before .before .before .before .before .can-keep in
+    let ring = b .before .before .before .before .before .before .before .before .ring in
+    let b2 = b .before .before .before .before .before .before .before .before .before .before in
+    let a = b2 .before .before .args in
+    under-new (a .self) (now (a .store)) (now (a .part)) (now (a .id)) (rw (ring .ensures) at (sym (can-keep .ensures) ∙ if1 .taken))
+    (find .result) (find .ensures) (if2 .left) _ _ (c .before .before .enter .ensures)
 
 returns-3 : tie.Need-returns-3
 returns-3 c = let a = c .before .before .before .before .before .before .args in kept-not (a .self) (now (a .store)) (now (a .part)) (now (a .id)) (rw

@@ -20,7 +20,10 @@ returns-4 : tie.Need-returns-4
 returns-4 c = lent-long (c .before .before .before .before .before .args .self) (now (c .before .before .before .before .before .args .store)) (c .before .before .before .if1 .left) (c .before .before .if2 .left) (c .before .if3 .left) (c .if4 .taken)
 
 returns-5 : tie.Need-returns-5
-returns-5 c = lent-many (c .before .before .before .before .before .before .args .self) (now (c .before .before .before .before .before .before .args .store)) (c .before .before .before .before .if1 .left) (c .before .before .before .if2 .left) (c .before .before .if3 .left) (c .before .if4 .left) (c .if5 .taken)
+returns-5 c =
+    let a = c .before .before .before .before .before .before .args in
+    lent-many (a .self) (now (a .store)) (c .before .before .before .before .if1 .left) (c .before .before .before .if2 .left)
+    (c .before .before .if3 .left) (c .before .if4 .left) (c .if5 .taken)
 
 known-flags-requires : tie.Need-known-flags-requires
 known-flags-requires c κs = search needs

@@ -26,7 +26,12 @@ without-requires c κs = stale-within (c .before .before .before .before .before
     (rw (c .before .before .before .before .before .before .ring .ensures) at (c .before .before .before .stale-rows .ensures))
 
 returns : tie.Need-returns
-returns c = shifted-is (c .before .before .before .before .before .before .before .before .args .self) (c .before .before .before .before .stale-rows .result) _ _ (rw (c .before .before .before .before .before .before .before .ring .ensures) at (c .before .before .before .before .stale-rows .ensures)) (c .before .before .age-windows .ensures) (c .without .ensures)
+returns c =
+    let stale-rows = c .before .before .before .before .stale-rows in
+    let ring = c .before .before .before .before .before .before .before .ring in
+    let a = c .before .before .before .before .before .before .before .before .args in
+    shifted-is (a .self) (stale-rows .result) _ _ (rw (ring .ensures) at (stale-rows .ensures)) (c .before .before .age-windows .ensures)
+    (c .without .ensures)
 
 pub next-window-spec : {M : Type 1} → statement M
 next-window-spec =

@@ -61,13 +61,18 @@ part-put-part-end c =
 
 put-part-requires : tie.Need-put-part-requires
 put-part-requires c κs =
-    let s = c .before .before .before .before .before .before .before .before .before .before .before .before .before .before .before .before .args .self in
-    let g = c .before .before .before .before .before .before .before .before .before .before .before .before .before .before .before .before .good .0 .1 .1 .1 .1 .1 .1 .1 in
-    tested s (now (c .before .before .before .before .before .before .before .before .before .before .before .before .before .before .before .before .args .store)) (sym (c .before .before .before .before .before .before .before .before .before .before .enum-told3 .given .1) ∙ (c .before .before .before .before .before .before .before .before .before .before .before .before .lent .ensures))
-    (length-unmapped ℕ (s .generation) 64 (g .0 .1 .0 .1)) (length-unmapped ℕ (s .window) 64 (g .1 .0 .1 .0 .1))
-    (length-unmapped ℕ (s .len) 64 (g .1 .1 .0 .1 .0 .1)) (length-unmapped ℕ (s .«id_len») 64 (g .1 .1 .1 .0 .1 .0 .1))
-    (length-unmapped ℕ (s .ids) 8192 (g .1 .1 .1 .1 .0 .1 .0 .1))
-    (roomy s (length-unmapped ℕ (s .«topic_count») 64 (g .1 .1 .1 .1 .1 .0 .1 .0 .1)) (length-unmapped ℕ (s .«topic_start») 256 (g .1 .1 .1 .1 .1 .1 .0 .1 .0 .1))
+    let enum-told3 = c .before .before .before .before .before .before .before .before .before .before .enum-told3 in
+    let b = c .before .before .before .before .before .before .before .before .before .before in
+    let lent = b .before .before .lent in
+    let a = b .before .before .before .before .before .before .args in
+    let good = b .before .before .before .before .before .before .good in
+    let s = a .self in
+    let g = good .0 .1 .1 .1 .1 .1 .1 .1 in
+    tested s (now (a .store)) (sym (enum-told3 .given .1) ∙ (lent .ensures)) (length-unmapped ℕ (s .generation) 64 (g .0 .1 .0 .1))
+    (length-unmapped ℕ (s .window) 64 (g .1 .0 .1 .0 .1)) (length-unmapped ℕ (s .len) 64 (g .1 .1 .0 .1 .0 .1))
+    (length-unmapped ℕ (s .«id_len») 64 (g .1 .1 .1 .0 .1 .0 .1)) (length-unmapped ℕ (s .ids) 8192 (g .1 .1 .1 .1 .0 .1 .0 .1))
+    (roomy s (length-unmapped ℕ (s .«topic_count») 64 (g .1 .1 .1 .1 .1 .0 .1 .0 .1))
+    (length-unmapped ℕ (s .«topic_start») 256 (g .1 .1 .1 .1 .1 .1 .0 .1 .0 .1))
     (length-unmapped ℕ (s .«topic_len») 256 (g .1 .1 .1 .1 .1 .1 .1 .0 .1 .0 .1)))
 
 same-length : tie.Need-same-length
@@ -90,9 +95,13 @@ same-length-3 : tie.Need-same-length-3
 same-length-3 c = search needs
 
 returns-3 : tie.Need-returns-3
-returns-3 c = let a = c .before .before .before .before .before .before .before .before .before .before .before .args in
-    put-done _ _ _ _ _ _ _ (puts-no (a .self) (now (a .store)) _ _ (plan-refused (a .self) (now (a .store)) (a .edition) (now (a .body)) (a .index) _
-    (sym (c .before .before .before .before .before .enum-told3 .given .1) ∙ (c .before .before .before .before .before .before .before .lent .ensures)) (c .before .before .before .before .mode-of .ensures) (sym (c .before .c .given .1) ∙ (c .before .before .before .accept .ensures))))
+returns-3 c =
+    let lent = c .before .before .before .before .before .before .before .lent in
+    let a = c .before .before .before .before .before .before .before .before .before .before .before .args in
+    put-done _ _ _ _ _ _ _ (puts-no (a .self) (now (a .store)) _ _
+    (plan-refused (a .self) (now (a .store)) (a .edition) (now (a .body)) (a .index) _
+    (sym (c .before .before .before .before .before .enum-told3 .given .1) ∙ (lent .ensures))
+    (c .before .before .before .before .mode-of .ensures) (sym (c .before .c .given .1) ∙ (c .before .before .before .accept .ensures))))
 
 same-length-4 : tie.Need-same-length-4
 same-length-4 c = search needs
@@ -109,10 +118,19 @@ same-length-5 : tie.Need-same-length-5
 same-length-5 c = search needs
 
 returns-5 : tie.Need-returns-5
-returns-5 c = let a = c .before .before .before .before .before .before .before .before .before .before .before .before .before .before .before .before .before .before .before .args in
+returns-5 c =
+    let message-at = c .before .before .before .before .before .before .before .before .message-at in
+    let enum-told4 = c .before .before .before .before .before .before .before .before .before .enum-told4 in
+    let accept = c .before .before .before .before .before .before .before .before .before .before .before .accept in
+    let b = c .before .before .before .before .before .before .before .before .before .before in
+    let mode-of = b .before .before .mode-of in
+    let enum-told3 = b .before .before .before .enum-told3 in
+    let lent = b .before .before .before .before .before .lent in
+    let a = b .before .before .before .before .before .before .before .before .before .args in
     put-done _ _ _ _ _ _ _ (puts-as (a .self) (now (a .store)) _ _ _ _ _
-    (plan-at (a .self) (now (a .store)) (a .edition) (now (a .body)) (a .index) _ _ (sym (c .before .before .before .before .before .before .before .before .before .before .before .before .before .enum-told3 .given .1) ∙ (c .before .before .before .before .before .before .before .before .before .before .before .before .before .before .before .lent .ensures)) (c .before .before .before .before .before .before .before .before .before .before .before .before .mode-of .ensures)
-    (sym (c .before .before .before .before .before .before .before .before .before .enum-told4 .given .1) ∙ (c .before .before .before .before .before .before .before .before .before .before .before .accept .ensures)) (sym (c .before .before .before .before .before .before .m2 .given .1) ∙ (c .before .before .before .before .before .before .before .before .message-at .ensures))) (c .before .before .put-part .ensures))
+    (plan-at (a .self) (now (a .store)) (a .edition) (now (a .body)) (a .index) _ _ (sym (enum-told3 .given .1) ∙ (lent .ensures))
+    (mode-of .ensures) (sym (enum-told4 .given .1) ∙ (accept .ensures))
+    (sym (c .before .before .before .before .before .before .m2 .given .1) ∙ (message-at .ensures))) (c .before .before .put-part .ensures))
 
 pub put-spec : {M : Type 1} → statement M
 put-spec =

@@ -23,7 +23,11 @@ form-id-requires : tie.Need-form-id-requires
 form-id-requires c κs = search needs
 
 array-share-prefix-id : tie.Need-array-share-prefix-id
-array-share-prefix-id c = id-fits-in _ (now (c .before .before .before .before .before .before .before .before .before .before .args .part)) _ _ _ _ (sym (c .before .before .before .before .before .before .before .admit .ensures) ∙ (c .before .before .before .before .before .a2 .given .1)) (c .before .before .form-id .result) _ _ refl (c .before .before .form-id .ensures)
+array-share-prefix-id c =
+    let admit = c .before .before .before .before .before .before .before .admit in
+    let a = c .before .before .before .before .before .before .before .before .before .before .args in
+    id-fits-in _ (now (a .part)) _ _ _ _ (sym (admit .ensures) ∙ (c .before .before .before .before .before .a2 .given .1))
+    (c .before .before .form-id .result) _ _ refl (c .before .before .form-id .ensures)
 
 slice-aggregate-keep : tie.Need-slice-aggregate-keep
 slice-aggregate-keep c = id-counts _ (now (c .before .before .before .before .before .before .before .before .before .before .before .args .part)) _ _ _ _
@@ -35,7 +39,10 @@ keep-requires : tie.Need-keep-requires
 keep-requires c κs = search needs
 
 returns : tie.Need-returns
-returns c = puts-no (c .before .before .before .before .before .before .args .self) (now (c .before .before .before .before .before .before .args .store)) _ _ (plan-unfit (c .before .before .before .before .before .before .args .self) (now (c .before .before .before .before .before .before .args .part)) _ (sym (c .before .a .given .1) ∙ (c .before .before .before .admit .ensures)))
+returns c =
+    let a = c .before .before .before .before .before .before .args in
+    puts-no (a .self) (now (a .store)) _ _ (plan-unfit (a .self) (now (a .part)) _
+    (sym (c .before .a .given .1) ∙ (c .before .before .before .admit .ensures)))
 
 same-length : tie.Need-same-length
 same-length c = search needs

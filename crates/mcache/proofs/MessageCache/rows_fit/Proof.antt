@@ -53,7 +53,10 @@ returns-2 c = rows-runs (c .before .before .before .before .before .before .befo
     ∙ (c .if2 .left))
 
 returns-3 : tie.Need-returns-3
-returns-3 c = rows-falls (c .before .before .before .before .before .before .before .before .args .self) (now (c .before .before .before .before .before .before .before .before .args .store)) (sym (rw (c .before .before .before .before .before .before .ring .ensures) at (c .before .windows-fall .ensures)) ∙ (c .if1 .left))
+returns-3 c =
+    let a = c .before .before .before .before .before .before .before .before .args in
+    rows-falls (a .self) (now (a .store)) (sym
+    (rw (c .before .before .before .before .before .before .ring .ensures) at (c .before .windows-fall .ensures)) ∙ (c .if1 .left))
 
 pub rows-fit-spec : {M : Type 1} → statement M
 rows-fit-spec =

@@ -38,18 +38,31 @@ enum-known-m-2 : tie.Need-enum-known-m-2
 enum-known-m-2 c = search needs
 
 sub-admit-part : tie.Need-sub-admit-part
-sub-admit-part c = let a = c .before .before .before .before .before .before .before .before .before .before .before .before .before .before .before .before .before .before .args in message-inside _ (now (a .body)) (a .index) _ _ (sym (c .before .before .before .before .before .message-at .ensures) ∙ (c .before .before .before .m2 .given .1)) .0
+sub-admit-part c =
+    let b = c .before .before .before .before .before .before .before .before .before .before in
+    let a = b .before .before .before .before .before .before .before .before .args in
+    message-inside _ (now (a .body)) (a .index) _ _
+    (sym (c .before .before .before .before .before .message-at .ensures) ∙ (c .before .before .before .m2 .given .1)) .0
 
 part-admit-part-start : tie.Need-part-admit-part-start
-part-admit-part-start c = let a = c .before .before .before .before .before .before .before .before .before .before .before .before .before .before .before .before .before .before .args in message-inside _ (now (a .body)) (a .index) _ _ (sym (c .before .before .before .before .before .message-at .ensures) ∙ (c .before .before .before .m2 .given .1)) .0
+part-admit-part-start c =
+    let b = c .before .before .before .before .before .before .before .before .before .before in
+    let a = b .before .before .before .before .before .before .before .before .args in
+    message-inside _ (now (a .body)) (a .index) _ _
+    (sym (c .before .before .before .before .before .message-at .ensures) ∙ (c .before .before .before .m2 .given .1)) .0
 
 part-admit-part-end : tie.Need-part-admit-part-end
-part-admit-part-end c = let a = c .before .before .before .before .before .before .before .before .before .before .before .before .before .before .before .before .before .before .args in message-inside _ (now (a .body)) (a .index) _ _ (sym (c .before .before .before .before .before .message-at .ensures) ∙ (c .before .before .before .m2 .given .1)) .1
+part-admit-part-end c =
+    let b = c .before .before .before .before .before .before .before .before .before .before in
+    let a = b .before .before .before .before .before .before .before .before .args in
+    message-inside _ (now (a .body)) (a .index) _ _
+    (sym (c .before .before .before .before .before .message-at .ensures) ∙ (c .before .before .before .m2 .given .1)) .1
 
 admit-part-requires : tie.Need-admit-part-requires
 admit-part-requires c κs = let b =
     c .before .before .before .before .before .before .before .before .before .before .before .before .before .before .before .before .before .before .before in
-    let a = b .args in let g = b .good .0 in
+    let a = b .args in
+    let g = b .good .0 in
     tested (a .self) (now (a .seen-store)) (now (a .cache-store))
     (sym (c .before .before .before .before .before .before .before .before .before .before .before .enum-told .given .1)
     ∙ (c .before .before .before .before .before .before .before .before .before .before .before .before .before .lent .ensures))

@@ -16,7 +16,10 @@ enum-told : tie.Need-enum-told
 enum-told c = search needs
 
 returns : tie.Need-returns
-returns c = let a = c .before .before .before .before .before .before .before .before .args in advertise-long (a .self) (now (a .seen-store)) (now (a .cache-store)) (now (a .topic)) (a .windows) (now (a .out)) (sym (c .before .enum-told .given .1) ∙ (c .before .before .before .lent .ensures)) (c .if1 .taken)
+returns c =
+    let a = c .before .before .before .before .before .before .before .before .args in
+    advertise-long (a .self) (now (a .seen-store)) (now (a .cache-store)) (now (a .topic)) (a .windows) (now (a .out))
+    (sym (c .before .enum-told .given .1) ∙ (c .before .before .before .lent .ensures)) (c .if1 .taken)
 
 announce-requires : tie.Need-announce-requires
 announce-requires c κs = let b = c .before .before .before .before .before .before .before .before .before in let a = b .args in let g = b .good .0 in (

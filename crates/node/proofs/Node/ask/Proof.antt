@@ -50,13 +50,18 @@ request-for-requires c κs = let a = (c .before .before .before .before .before 
     (r .rows, (accept-small d (a .body .now) e, few-as (c .before .before .before .before .mode-of .ensures) _ (a .body .now) (path-accepted d (a .body .now) e .0)))
 
 returns : tie.Need-returns
-returns c = let a = (c .before .before .before .before .before .before .before .before .args) in let r = asks-faulty (a .self) (a .seen-store .now) (a .cache-store .now) (a .edition) (a .body .now) (a .out .now) _ (c .before .before .before .lent .ensures) _ (c .before .lent2 .given .1) in record { answer = r .0; node = refl; buffer = r .1 }
+returns c =
+    let a = c .before .before .before .before .before .before .before .before .args in
+    let r = asks-faulty (a .self) (a .seen-store .now) (a .cache-store .now) (a .edition) (a .body .now) (a .out .now) _
+    (c .before .before .before .lent .ensures) _ (c .before .lent2 .given .1) in
+    record { answer = r .0; node = refl; buffer = r .1 }
 
 returns-2 : tie.Need-returns-2
 returns-2 c = let a = (c .before .before .before .before .before .before .before .before .before .before .before .before .args) in
     let r = asks-refused (a .self) (a .seen-store .now) (a .cache-store .now) (a .edition) (a .body .now) (a .out .now) _
     (c .before .before .before .before .before .before .before .lent .ensures) (c .before .before .before .before .before .enum-told .given .1) (c .before .before .before .before .mode-of .ensures) _
-    (c .before .before .before .accept .ensures) _ (c .before .c .given .1) in record { answer = r .0; node = refl; buffer = r .1 }
+    (c .before .before .before .accept .ensures) _ (c .before .c .given .1) in
+    record { answer = r .0; node = refl; buffer = r .1 }
 
 same-length : tie.Need-same-length
 same-length c = search needs

@@ -55,26 +55,23 @@ same-length-3 : tie.Need-same-length-3
 same-length-3 c = search needs
 
 returns-2 : tie.Need-returns-2
-returns-2 c = let a =
-    c .before .before .before .before .before .before .before .before .before .before .before .before .before .before .before .before .before .before .before .before .before .before .args in admits-new (a .self) (now (a .seen-store)) (now (a .cache-store)) (a .at)
-    (c .before .before .before .before .before .before .before .before .before .before .before .before .before .before .before .clean .result)
-    (c .before .before .before .before .before .before .before .before .before .before .before .before .before .before .before .clean .ensures) (now (a .part)) (now (a .key)) (c .before .before .before .before .before .before .before .before .before .before .before .before .before .before .before .before .before .before .before .before .before .before .pre .1 .2)
-    (c .before .before .before .before .before .before .before .before .before .before .before .before .before .holds .result)
-    (c .before .before .before .before .before .before .before .before .before .before .before .before .before .holds .ensures)
-    (c .before .before .before .before .before .before .before .before .before .before .before .before .if1 .left)
-    (c .before .before .before .before .before .before .before .before .before .before .before .expiry-of .result)
-    (c .before .before .before .before .before .before .before .before .before .before .before .expiry-of .ensures)
-    (c .before .before .before .before .before .before .before .before .before .enter .result) _ (swept-enters (a .self) (now (a .seen-store)) (now
-    (a .cache-store)) (a .at)
-    (c .before .before .before .before .before .before .before .before .before .before .before .before .before .before .before .clean .result)
-    (c .before .before .before .before .before .before .before .before .before .before .before .before .before .before .before .clean .ensures)
-    (c .before .before .before .before .before .before .before .before .before .before .before .before .before .before .before .before .before .before .before .before .before .before .pre .0) (now (a .key))
-    (c .before .before .before .before .before .before .before .before .before .before .before .before .before .before .before .before .before .before .before .before .before .before .pre .1 .1) _ _ _ (c .before .before .before .before .before .before .before .before .before .enter .ensures))
-    (c .before .before .before .before .keep .result .cache) _ (keeps-under (a .self .cache) (now (a .cache-store)) (now (a .part)) (now (a .key))
-    (c .before .before .before .before .before .before .before .before .before .before .before .before .before .before .before .before .before .before .before .before .before .before .pre .0 .kept)
-    (c .before .before .before .before .before .before .before .before .before .before .before .before .before .before .before .before .before .before .before .before .before .before .pre .1 .0)
-    (c .before .before .before .before .before .before .before .before .before .before .before .before .before .before .before .before .before .before .before .before .before .before .pre .1 .2)
-    (c .before .before .before .before .before .before .before .before .before .before .before .before .before .before .before .before .before .before .before .before .before .before .pre .1 .1) _ _ (c .before .before .before .before .keep .ensures)) (c .later2 .result) (c .later2 .ensures)
+returns-2 c =
+    let keep = c .before .before .before .before .keep in
+    let enter = c .before .before .before .before .before .before .before .before .before .enter in
+    let expiry-of = c .before .before .before .before .before .before .before .before .before .before .before .expiry-of in
+    let b = c .before .before .before .before .before .before .before .before .before .before in
+    let if1 = b .before .before .if1 in
+    let holds = b .before .before .before .holds in
+    let clean = b .before .before .before .before .before .clean in
+    let b2 = b .before .before .before .before .before .before .before .before .before .before .before .before in
+    let a = b2 .args in
+    let pre = b2 .pre in
+    admits-new (a .self) (now (a .seen-store)) (now (a .cache-store)) (a .at) (clean .result) (clean .ensures) (now (a .part))
+    (now (a .key)) (pre .1 .2) (holds .result) (holds .ensures) (if1 .left) (expiry-of .result) (expiry-of .ensures) (enter .result) _
+    (swept-enters (a .self) (now (a .seen-store)) (now (a .cache-store)) (a .at) (clean .result) (clean .ensures) (pre .0)
+    (now (a .key)) (pre .1 .1) _ _ _ (enter .ensures)) (keep .result .cache) _
+    (keeps-under (a .self .cache) (now (a .cache-store)) (now (a .part)) (now (a .key)) (pre .0 .kept) (pre .1 .0) (pre .1 .2)
+    (pre .1 .1) _ _ (keep .ensures)) (c .later2 .result) (c .later2 .ensures)
 
 pub insert-spec : {M : Type 1} → statement M
 insert-spec =

@@ -28,7 +28,10 @@ enum-told-3 : tie.Need-enum-told-3
 enum-told-3 c = search needs
 
 seen-fits-requires : tie.Need-seen-fits-requires
-seen-fits-requires c κs = let a = c .before .before .before .before .before .before .before .before .before .args in lent-room (a .self) (now (a .seen-store)) (now (a .cache-store)) (c .before .before .before .before .before .before .if1 .left) (c .before .before .before .before .before .if2 .left) (c .before .before .before .before .if3 .left)
+seen-fits-requires c κs =
+    let a = c .before .before .before .before .before .before .before .before .before .args in
+    lent-room (a .self) (now (a .seen-store)) (now (a .cache-store)) (c .before .before .before .before .before .before .if1 .left)
+    (c .before .before .before .before .before .if2 .left) (c .before .before .before .before .if3 .left)
 
 returns-4 : tie.Need-returns-4
 returns-4 c = let a = c .before .before .before .before .before .before .before .before .before .before .before .args in

@@ -44,28 +44,35 @@ slice-aggregate-not-declined-2 c = search needs
 
 not-declined-requires : tie.Need-not-declined-requires
 not-declined-requires c κs =
-    let s = c .before .before .before .before .before .before .before .before .before .before .before .before .before .before .before in
-    let m = c .before .before .before .before .before .before .before .parts-at .ensures .1 .room in
-    let n = c .before .before .before .first-mentions .ensures .1 .1 in
-    (c .before .before .before .first-mentions .ensures .1 .0, (omega arith, few-as (sym (c .before .before .before .before .before .before .before .before .before .before .mode-of .ensures)) _ (s .args .unwanted .now) (s .pre .1 .1)))
+    let first-mentions = c .before .before .before .first-mentions in
+    let parts-at = c .before .before .before .before .before .before .before .parts-at in
+    let mode-of = c .before .before .before .before .before .before .before .before .before .before .mode-of in
+    let b = c .before .before .before .before .before .before .before .before .before .before in
+    let s = b .before .before .before .before .before in
+    let m = parts-at .ensures .1 .room in
+    let n = first-mentions .ensures .1 .1 in
+    (first-mentions .ensures .1 .0, (omega arith, few-as (sym (mode-of .ensures)) _ (s .args .unwanted .now) (s .pre .1 .1)))
 
 ring-requires : tie.Need-ring-requires
 ring-requires c κs = search needs
 
 slice-aggregate-cached : tie.Need-slice-aggregate-cached
 slice-aggregate-cached c =
-    let s = c .before .before .before .before .before .before .before .before .before .before .before .before .before .before .before .before .before .before .before .before .before .before .before in sym (length-unmapped ℕ (s .args .self
-    .cache .len) 64 (s .good .0 .1 .1 .1 .1 .1 .1 .0 .1 .1 .1 .1 .1 .1 .1 .1 .1 .0 .1 .0 .1))
+    let b = c .before .before .before .before .before .before .before .before .before .before in
+    let s = b .before .before .before .before .before .before .before .before .before .before .before .before .before in
+    sym (length-unmapped ℕ (s .args .self .cache .len) 64 (s .good .0 .1 .1 .1 .1 .1 .1 .0 .1 .1 .1 .1 .1 .1 .1 .1 .1 .0 .1 .0 .1))
 
 slice-aggregate-cached-2 : tie.Need-slice-aggregate-cached-2
 slice-aggregate-cached-2 c =
-    let s = c .before .before .before .before .before .before .before .before .before .before .before .before .before .before .before .before .before .before .before .before .before .before .before .before in sym (length-unmapped ℕ (s .args
-    .self .cache .«id_len») 64 (s .good .0 .1 .1 .1 .1 .1 .1 .0 .1 .1 .1 .1 .1 .1 .1 .1 .1 .1 .0 .1 .0 .1))
+    let b = c .before .before .before .before .before .before .before .before .before .before in
+    let s = b .before .before .before .before .before .before .before .before .before .before .before .before .before .before in
+    sym (length-unmapped ℕ (s .args .self .cache .«id_len») 64 (s .good .0 .1 .1 .1 .1 .1 .1 .0 .1 .1 .1 .1 .1 .1 .1 .1 .1 .1 .0 .1 .0 .1))
 
 slice-aggregate-cached-3 : tie.Need-slice-aggregate-cached-3
 slice-aggregate-cached-3 c =
-    let s = c .before .before .before .before .before .before .before .before .before .before .before .before .before .before .before .before .before .before .before .before .before .before .before .before .before in sym (length-unmapped ℕ
-    (s .args .self .cache .ids) 8192 (s .good .0 .1 .1 .1 .1 .1 .1 .0 .1 .1 .1 .1 .1 .1 .1 .1 .1 .1 .1 .0 .1 .0 .1))
+    let b = c .before .before .before .before .before .before .before .before .before .before in
+    let s = b .before .before .before .before .before .before .before .before .before .before .before .before .before .before .before in
+    sym (length-unmapped ℕ (s .args .self .cache .ids) 8192 (s .good .0 .1 .1 .1 .1 .1 .1 .0 .1 .1 .1 .1 .1 .1 .1 .1 .1 .1 .1 .0 .1 .0 .1))
 
 slice-aggregate-cached-4 : tie.Need-slice-aggregate-cached-4
 slice-aggregate-cached-4 c = search needs
@@ -91,12 +98,15 @@ cached-requires c κs =
 returns : tie.Need-returns
 returns c =
     let r = c .before .before .before .before .before .before .before .before .before .before .before in
+    let b = c .before .before .before .before .before .before .before .before .before .before in
+    let mode-of = b .before .before .before .before .before .before .before .before .before .before .before .before .before .before .before .mode-of in
     let d = r .before .before .before in
     let s = d .before .before .before .before .before .before .before .before .before .before .before .before .before .before .before .before in
     let a = s .args in
-    let f = first-is (c .before .before .before .before .before .before .before .before .before .before .before .before .before .before .before .before .before .before .before .before .before .before .before .before .before .mode-of .ensures) (3 ∷ 2 ∷ 1 ∷ []) (a .body .now) (s .pre .1 .0) _ _ _ (d .before .before .before .before .before .before .before .before .parts-at .ensures .0) _ _
+    let f = first-is (mode-of .ensures) (3 ∷ 2 ∷ 1 ∷ []) (a .body .now) (s .pre .1 .0) _ _ _
+    (d .before .before .before .before .before .before .before .before .parts-at .ensures .0) _ _
     (d .before .before .before .before .first-mentions .ensures .0) in
-    let x = rest-is (c .before .before .before .before .before .before .before .before .before .before .before .before .before .before .before .before .before .before .before .before .before .before .before .before .before .mode-of .ensures) (a .body .now) (a .unwanted .now) _ _ _ _ f (d .not-declined .ensures .0) in
+    let x = rest-is (mode-of .ensures) (a .body .now) (a .unwanted .now) _ _ _ _ f (d .not-declined .ensures .0) in
     let q = messages-are (a .self .cache) (a .cache-store .now) (a .body .now) (a .unwanted .now) _ _ _ _ x
     (rw (r .ring .ensures) at (c .before .before .cached .ensures .0)) in
     reply-none _ (a .cache-store .now) _ _ (a .out .now) q (c .if1 .taken)
@@ -146,39 +156,50 @@ emit-parts-requires c κs =
 
 returns-2 : tie.Need-returns-2
 returns-2 c =
-    let r = c .before .before .before .before .before .before .before .before .before .before .before .before .before .before .before .before .before .before .before in
+    let reply-room = c .before .before .before .before .before .before .before .reply-room in
+    let if1 = c .before .before .before .before .before .before .before .before .if1 in
+    let cached = c .before .before .before .before .before .before .before .before .before .before .cached in
+    let b = c .before .before .before .before .before .before .before .before .before .before in
+    let r = b .before .before .before .before .before .before .before .before .before in
+    let b2 = b .before .before .before .before .before .before .before .before .before .before in
+    let mode-of = b2 .before .before .before .before .before .before .before .before .before .before .before .before .before .mode-of in
     let d = r .before .before .before in
     let s = d .before .before .before .before .before .before .before .before .before .before .before .before .before .before .before .before in
     let a = s .args in
-    let f = first-is (c .before .before .before .before .before .before .before .before .before .before .before .before .before .before .before .before .before .before .before .before .before .before .before .before .before .before .before .before .before .before .before .before .before .mode-of .ensures) (3 ∷ 2 ∷ 1 ∷ []) (a .body .now) (s .pre .1 .0) _ _ _ (d .before .before .before .before .before .before .before .before .parts-at .ensures .0) _ _
+    let f = first-is (mode-of .ensures) (3 ∷ 2 ∷ 1 ∷ []) (a .body .now) (s .pre .1 .0) _ _ _
+    (d .before .before .before .before .before .before .before .before .parts-at .ensures .0) _ _
     (d .before .before .before .before .first-mentions .ensures .0) in
-    let x = rest-is (c .before .before .before .before .before .before .before .before .before .before .before .before .before .before .before .before .before .before .before .before .before .before .before .before .before .before .before .before .before .before .before .before .before .mode-of .ensures) (a .body .now) (a .unwanted .now) _ _ _ _ f (d .not-declined .ensures .0) in
+    let x = rest-is (mode-of .ensures) (a .body .now) (a .unwanted .now) _ _ _ _ f (d .not-declined .ensures .0) in
     let q = messages-are (a .self .cache) (a .cache-store .now) (a .body .now) (a .unwanted .now) _ _ _ _ x
-    (rw (r .ring .ensures) at (c .before .before .before .before .before .before .before .before .before .before .cached .ensures .0)) in
-    reply-short _ (a .cache-store .now) _ _ (a .out .now) q (c .before .before .before .before .before .before .before .before .if1 .left) _ _ (c .before .before .before .before .before .before .before .reply-room .ensures) (c .before .before .before .before .before .parts-that-fit .ensures .0)
-    (c .before .before .before .before .if2 .taken) _ _ _ (c .before .emit-parts .ensures)
+    (rw (r .ring .ensures) at (cached .ensures .0)) in
+    reply-short _ (a .cache-store .now) _ _ (a .out .now) q (if1 .left) _ _ (reply-room .ensures)
+    (c .before .before .before .before .before .parts-that-fit .ensures .0) (c .before .before .before .before .if2 .taken) _ _ _
+    (c .before .emit-parts .ensures)
 
 slice-aggregate-emit-parts-3 : tie.Need-slice-aggregate-emit-parts-3
 slice-aggregate-emit-parts-3 c = search needs
 
 emit-parts-requires-2 : tie.Need-emit-parts-requires-2
 emit-parts-requires-2 c κs =
-    let r = c .before .before .before .before .before .before .before .before .before .before .before .before .before .before .before .before .before in
+    let cached = c .before .before .before .before .before .before .before .before .cached in
+    let b = c .before .before .before .before .before .before .before .before .before .before in
+    let r = b .before .before .before .before .before .before .before in
+    let b2 = b .before .before .before .before .before .before .before .before .before .before in
+    let mode-of = b2 .before .before .before .before .before .before .before .before .before .before .before .mode-of in
     let d = r .before .before .before in
     let s = d .before .before .before .before .before .before .before .before .before .before .before .before .before .before .before .before in
     let a = s .args in
-    let n = named-few (c .before .before .before .before .before .before .before .before .before .before .before .before .before .before .before .before .before .before .before .before .before .before .before .before .before .before .before .before .before .before .before .mode-of .ensures) (3 ∷ 2 ∷ 1 ∷ []) (a .body .now) (s .pre .1 .0) _ _ _ (d .before .before .before .before .before .before .before .before .parts-at .ensures .0) in
+    let n = named-few (mode-of .ensures) (3 ∷ 2 ∷ 1 ∷ []) (a .body .now) (s .pre .1 .0) _ _ _
+    (d .before .before .before .before .before .before .before .before .parts-at .ensures .0) in
     let o = d .before .before .before .before .first-mentions .ensures .1 .1 in
     let u = d .not-declined .ensures .1 .1 in
-    let v = c .before .before .before .before .before .before .before .before .cached .ensures .1 .1 in
+    let v = cached .ensures .1 .1 in
     let l = c .before .before .before .parts-that-fit .ensures .1 in
-    let m = (rw (r .ring .ensures) at (c .before .before .before .before .before .before .before .before .cached
-    .ensures .1 .0)) (a .cache-store .now) (s .pre .0 .rows .room) in (
+    let m = (rw (r .ring .ensures) at (cached .ensures .1 .0)) (a .cache-store .now) (s .pre .0 .rows .room) in (
       parts-fewer (a .cache-store .now) _ _ _ l m,
       (
         omega arith,
-        reply-fits (a .cache-store .now) _ _ (kept-size (a .self .cache) (a .cache-store .now) (s .pre .0))
-            (omega arith),
+        reply-fits (a .cache-store .now) _ _ (kept-size (a .self .cache) (a .cache-store .now) (s .pre .0)) (omega arith),
       ),
     )
 
@@ -197,18 +218,25 @@ same-length c = search needs
 
 returns-3 : tie.Need-returns-3
 returns-3 c =
-    let r = c .before .before .before .before .before .before .before .before .before .before .before .before .before .before .before .before .before .before .before .before in
+    let parts-that-fit = c .before .before .before .before .before .before .parts-that-fit in
+    let reply-room = c .before .before .before .before .before .before .before .before .reply-room in
+    let if1 = c .before .before .before .before .before .before .before .before .before .if1 in
+    let cached = c .before .before .before .before .before .before .before .before .before .before .before .cached in
+    let b = c .before .before .before .before .before .before .before .before .before .before in
+    let r = b .before .before .before .before .before .before .before .before .before .before in
+    let b2 = b .before .before .before .before .before .before .before .before .before .before in
+    let mode-of = b2 .before .before .before .before .before .before .before .before .before .before .before .before .before .before .mode-of in
     let d = r .before .before .before in
     let s = d .before .before .before .before .before .before .before .before .before .before .before .before .before .before .before .before in
     let a = s .args in
-    let f = first-is (c .before .before .before .before .before .before .before .before .before .before .before .before .before .before .before .before .before .before .before .before .before .before .before .before .before .before .before .before .before .before .before .before .before .before .mode-of .ensures) (3 ∷ 2 ∷ 1 ∷ []) (a .body .now) (s .pre .1 .0) _ _ _ (d .before .before .before .before .before .before .before .before .parts-at .ensures .0) _ _
+    let f = first-is (mode-of .ensures) (3 ∷ 2 ∷ 1 ∷ []) (a .body .now) (s .pre .1 .0) _ _ _
+    (d .before .before .before .before .before .before .before .before .parts-at .ensures .0) _ _
     (d .before .before .before .before .first-mentions .ensures .0) in
-    let x = rest-is (c .before .before .before .before .before .before .before .before .before .before .before .before .before .before .before .before .before .before .before .before .before .before .before .before .before .before .before .before .before .before .before .before .before .before .mode-of .ensures) (a .body .now) (a .unwanted .now) _ _ _ _ f (d .not-declined .ensures .0) in
+    let x = rest-is (mode-of .ensures) (a .body .now) (a .unwanted .now) _ _ _ _ f (d .not-declined .ensures .0) in
     let q = messages-are (a .self .cache) (a .cache-store .now) (a .body .now) (a .unwanted .now) _ _ _ _ x
-    (rw (r .ring .ensures) at (c .before .before .before .before .before .before .before .before .before .before .before .cached .ensures .0)) in
-    reply-put _ (a .cache-store .now) _ _ (a .out .now) q (c .before .before .before .before .before .before .before .before .before .if1 .left) _ _ (c .before .before .before .before .before .before .before .before .reply-room
-    .ensures) (c .before .before .before .before .before .before .parts-that-fit .ensures .0)
-    (c .before .before .before .before .before .if2 .left) (c .before .before .before .before .before .before .parts-that-fit .ensures .1) _ _ (c .before .before .emit-parts2 .ensures)
+    (rw (r .ring .ensures) at (cached .ensures .0)) in
+    reply-put _ (a .cache-store .now) _ _ (a .out .now) q (if1 .left) _ _ (reply-room .ensures) (parts-that-fit .ensures .0)
+    (c .before .before .before .before .before .if2 .left) (parts-that-fit .ensures .1) _ _ (c .before .before .emit-parts2 .ensures)
 
 pub reply-to-spec : {M : Type 1} → statement M
 reply-to-spec =

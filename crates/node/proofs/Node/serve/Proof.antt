@@ -33,10 +33,14 @@ enum-told-2 c = search needs
 
 serve-taken-requires : tie.Need-serve-taken-requires
 serve-taken-requires c κs =
-    let s = c .before .before .before .before .before .before .before .before .before .before .before .before .before in
+    let mode-of = c .before .before .before .before .mode-of in
+    let lent = c .before .before .before .before .before .before .before .lent in
+    let b = c .before .before .before .before .before .before .before .before .before .before in
+    let s = b .before .before .before in
     let a = s .args in
     let g = s .good .0 in
-    let r = tested (a .self) (a .seen-store .now) (a .cache-store .now) (sym (c .before .before .before .before .before .enum-told .given .1) ∙ c .before .before .before .before .before .before .before .lent .ensures)
+    let r = tested (a .self) (a .seen-store .now) (a .cache-store .now)
+    (sym (c .before .before .before .before .before .enum-told .given .1) ∙ lent .ensures)
     (length-unmapped ℕ (a .self .seen .expiry) 256 (g .1 .1 .1 .1 .1 .0 .1 .1 .1 .1 .0 .1 .0 .1))
     (length-unmapped ℕ (a .self .seen .len) 256 (g .1 .1 .1 .1 .1 .0 .1 .1 .1 .1 .1 .0 .1 .0 .1))
     (length-unmapped ℕ (a .self .cache .generation) 64 (g .1 .1 .1 .1 .1 .1 .0 .1 .1 .1 .1 .1 .1 .1 .0 .1 .0 .1))
@@ -44,14 +48,11 @@ serve-taken-requires c κs =
     (length-unmapped ℕ (a .self .cache .len) 64 (g .1 .1 .1 .1 .1 .1 .0 .1 .1 .1 .1 .1 .1 .1 .1 .1 .0 .1 .0 .1))
     (length-unmapped ℕ (a .self .cache .«id_len») 64 (g .1 .1 .1 .1 .1 .1 .0 .1 .1 .1 .1 .1 .1 .1 .1 .1 .1 .0 .1 .0 .1))
     (length-unmapped ℕ (a .self .cache .ids) 8192 (g .1 .1 .1 .1 .1 .1 .0 .1 .1 .1 .1 .1 .1 .1 .1 .1 .1 .1 .0 .1 .0 .1))
-    (length-unmapped ℕ (a .self .cache .«topic_count») 64 (g .1 .1 .1 .1 .1 .1 .0 .1 .1 .1 .1 .1 .1 .1 .1 .1 .1 .1 .1
-    .0 .1 .0 .1))
-    (length-unmapped ℕ (a .self .cache .«topic_start») 256 (g .1 .1 .1 .1 .1 .1 .0 .1 .1 .1 .1 .1 .1 .1 .1 .1 .1 .1 .1
-    .1 .0 .1 .0 .1))
-    (length-unmapped ℕ (a .self .cache .«topic_len») 256 (g .1 .1 .1 .1 .1 .1 .0 .1 .1 .1 .1 .1 .1 .1 .1 .1 .1 .1 .1 .1
-    .1 .0 .1 .0 .1)) in
+    (length-unmapped ℕ (a .self .cache .«topic_count») 64 (g .1 .1 .1 .1 .1 .1 .0 .1 .1 .1 .1 .1 .1 .1 .1 .1 .1 .1 .1 .0 .1 .0 .1))
+    (length-unmapped ℕ (a .self .cache .«topic_start») 256 (g .1 .1 .1 .1 .1 .1 .0 .1 .1 .1 .1 .1 .1 .1 .1 .1 .1 .1 .1 .1 .0 .1 .0 .1))
+    (length-unmapped ℕ (a .self .cache .«topic_len») 256 (g .1 .1 .1 .1 .1 .1 .0 .1 .1 .1 .1 .1 .1 .1 .1 .1 .1 .1 .1 .1 .1 .0 .1 .0 .1)) in
     let e = sym (c .before .before .before .accept .ensures) ∙ c .before .enum-told2 .given .1 in
-    (r .kept, few-as (c .before .before .before .before .mode-of .ensures) _ (a .body .now) (path-accepted (spoken (c .before .before .before .before .mode-of .result) (a .edition)) (a .body .now) e .1))
+    (r .kept, few-as (mode-of .ensures) _ (a .body .now) (path-accepted (spoken (mode-of .result) (a .edition)) (a .body .now) e .1))
 
 returns : tie.Need-returns
 returns c =
@@ -75,11 +76,14 @@ same-length c = search needs
 
 returns-3 : tie.Need-returns-3
 returns-3 c =
-    let a = c .before .before .before .before .before .before .before .before .before .before .before .before .before .before .before .before .args in
-    let r = serves-done (a .self) (a .seen-store .now) (a .cache-store .now) (a .edition) (a .body .now) (a .unwanted
-    .now) (a .out .now) _
-    (c .before .before .before .before .before .before .before .before .before .before .lent .ensures) (c .before .before .before .before .before .before .before .before .enum-told .given .1) (c .before .before .before .before .before .before .before .mode-of .ensures) _ (c .before .before .before .before .before .before .accept .ensures) (c .before .before .before .before .enum-told2 .given .1) _ _ (c .before .before .serve-taken
-    .ensures) in
+    let mode-of = c .before .before .before .before .before .before .before .mode-of in
+    let enum-told = c .before .before .before .before .before .before .before .before .enum-told in
+    let lent = c .before .before .before .before .before .before .before .before .before .before .lent in
+    let b = c .before .before .before .before .before .before .before .before .before .before in
+    let a = b .before .before .before .before .before .before .args in
+    let r = serves-done (a .self) (a .seen-store .now) (a .cache-store .now) (a .edition) (a .body .now) (a .unwanted .now) (a .out .now) _
+    (lent .ensures) (enum-told .given .1) (mode-of .ensures) _ (c .before .before .before .before .before .before .accept .ensures)
+    (c .before .before .before .before .enum-told2 .given .1) _ _ (c .before .before .serve-taken .ensures) in
     record { answer = r .0; node = refl; buffer = r .1 }
 
 pub serve-spec : {M : Type 1} → statement M

@@ -30,7 +30,11 @@ returns-2 : tie.Need-returns-2
 returns-2 c = let a = c .before .before .before .before .before .args in start-refused (a .ttl) (a .max-seen) (a .history-len) (a .max-messages) (a .flags) (sym (c .before .enum-told .given .1) ∙ (c .before .before .before .before .new .ensures .answer)) (c .refused .ensures)
 
 returns-3 : tie.Need-returns-3
-returns-3 c = let a = c .before .before .before .before .before .before .args in start-fits (a .ttl) (a .max-seen) (a .history-len) (a .max-messages) (a .flags) (sym (c .before .before .enum-told2 .given .1) ∙ (c .before .before .before .before .before .new .ensures .answer)) (c .before .if1 .left) _ _ (c .new2 .ensures) (c .before .before .before .before .before .new .ensures .cache)
+returns-3 c =
+    let new = c .before .before .before .before .before .new in
+    let a = c .before .before .before .before .before .before .args in
+    start-fits (a .ttl) (a .max-seen) (a .history-len) (a .max-messages) (a .flags)
+    (sym (c .before .before .enum-told2 .given .1) ∙ (new .ensures .answer)) (c .before .if1 .left) _ _ (c .new2 .ensures) (new .ensures .cache)
 
 pub start-spec : {M : Type 1} → statement M
 start-spec =

@@ -132,12 +132,24 @@ field-at-returns t c = let a = c .before .before .before .before .before .before
 field-at-returns-2 :
     (t : ℕ) →
     field-at-lts.Need-returns-2 (parts-at-below t, parts-at.Post) (field-at-at t) field-at.Post
-field-at-returns-2 t c = let a = c .before .before .before .before .before .before .before .before .args in (none-more (a .body .now) (a .table .now) (a .n) _ (field-other (a .mode) (a .path .now) (between (a .body .now) (a .start) (a .end)) (a .f) (c .before .before .before .if1 .taken) (c .if2 .left)), (c .before .before .before .before .before .before .before .before .pre .1 .1 .1 .0))
+field-at-returns-2 t c =
+    let a = c .before .before .before .before .before .before .before .before .args in
+    let pre = c .before .before .before .before .before .before .before .before .pre in (
+      none-more (a .body .now) (a .table .now) (a .n) _
+          (field-other (a .mode) (a .path .now) (between (a .body .now) (a .start) (a .end)) (a .f) (c .before .before .before .if1 .taken)
+          (c .if2 .left)),
+      (pre .1 .1 .1 .0),
+    )
 
 field-at-returns-3 :
     (t : ℕ) →
     field-at-lts.Need-returns-3 (parts-at-below t, parts-at.Post) (field-at-at t) field-at.Post
-field-at-returns-3 t c = let a = c .before .before .before .before .before .args in (none-more (a .body .now) (a .table .now) (a .n) _ (field-no (a .mode) (a .path .now) (between (a .body .now) (a .start) (a .end)) (a .f) (c .if1 .left)), (c .before .before .before .before .before .pre .1 .1 .1 .0))
+field-at-returns-3 t c =
+    let a = c .before .before .before .before .before .args in (
+      none-more (a .body .now) (a .table .now) (a .n) _
+          (field-no (a .mode) (a .path .now) (between (a .body .now) (a .start) (a .end)) (a .f) (c .if1 .left)),
+      (c .before .before .before .before .before .pre .1 .1 .1 .0),
+    )
 
 abbrev parts-at-Inv-loop : parts-at-lts.InvT-loop
 parts-at-Inv-loop mode body start end path table₀ n at₀ k₀ table at k = Walked mode body start end path table₀ n table at k × (length table ≡ length table₀)
@@ -146,7 +158,10 @@ abbrev parts-at-μ-loop : parts-at-lts.MeasureT-loop
 parts-at-μ-loop mode body start end path table₀ n at₀ k₀ table at k = (end - start) - at
 
 parts-at-add-part-requires : (t : ℕ) → parts-at-lts.Need-add-part-requires (parts-at-claims t) (parts-at-at t) parts-at.Post parts-at-Inv-loop parts-at-μ-loop
-parts-at-add-part-requires t c κs = let a = c .before .before .before .before .before .args in one-room (a .mode) (a .body .now) (a .path .now) (a .table .now) (a .n) (a .start) (a .end) (c .before .if1 .taken) (c .before .before .before .before .before .pre .1 .1 .1)
+parts-at-add-part-requires t c κs =
+    let a = c .before .before .before .before .before .args in
+    one-room (a .mode) (a .body .now) (a .path .now) (a .table .now) (a .n) (a .start) (a .end) (c .before .if1 .taken)
+    (c .before .before .before .before .before .pre .1 .1 .1)
 
 parts-at-same-length : (t : ℕ) → parts-at-lts.Need-same-length (parts-at-claims t) (parts-at-at t) parts-at.Post parts-at-Inv-loop parts-at-μ-loop
 parts-at-same-length t c = search needs
@@ -160,7 +175,12 @@ parts-at-returns t c = let a = c .before .before .before .before .before .before
     (c .before .before .add-part .ensures .1)
 
 parts-at-loop-holds : (t : ℕ) → parts-at-lts.Need-loop-holds (parts-at-claims t) (parts-at-at t) parts-at.Post parts-at-Inv-loop parts-at-μ-loop
-parts-at-loop-holds t c = let a = c .before .before .before .before .args in (walked-all (a .mode) (a .body .now) (a .start) (a .end) (a .path .now) (a .table .now) (a .n) (c .before .before .before .before .pre .1 .1 .0) (c .if1 .left), refl)
+parts-at-loop-holds t c =
+    let a = c .before .before .before .before .args in (
+      walked-all (a .mode) (a .body .now) (a .start) (a .end) (a .path .now) (a .table .now) (a .n)
+          (c .before .before .before .before .pre .1 .1 .0) (c .if1 .left),
+      refl,
+    )
 
 parts-at-sub-loop : (t : ℕ) → parts-at-lts.Need-sub-loop (parts-at-claims t) (parts-at-at t) parts-at.Post parts-at-Inv-loop parts-at-μ-loop
 parts-at-sub-loop t c = c .before .before .before .before .before .pre .1 .0 .0
@@ -184,7 +204,12 @@ parts-at-same-length-2 : (t : ℕ) → parts-at-lts.Need-same-length-2 (parts-at
 parts-at-same-length-2 t c = c .before .before .before .before .before .loop .inv .1
 
 parts-at-returns-2 : (t : ℕ) → parts-at-lts.Need-returns-2 (parts-at-claims t) (parts-at-at t) parts-at.Post parts-at-Inv-loop parts-at-μ-loop
-parts-at-returns-2 t c = let a = c .before .before .before .before .before .before .before .before .before .before .args in let l = c .before .before .before .before .before .loop in walked-done (a .mode) _ _ _ _ _ _ _ _ _ (l .inv .0) (path-end (a .mode) (a .path .now) (between (a .body .now) (a .start) (a .end)) (l .at) (sym (c .enum-told .given .1) ∙ (c .before .before .read-field .ensures)))
+parts-at-returns-2 t c =
+    let l = c .before .before .before .before .before .loop in
+    let a = c .before .before .before .before .before .before .before .before .before .before .args in
+    walked-done (a .mode) _ _ _ _ _ _ _ _ _ (l .inv .0)
+    (path-end (a .mode) (a .path .now) (between (a .body .now) (a .start) (a .end)) (l .at)
+    (sym (c .enum-told .given .1) ∙ (c .before .before .read-field .ensures)))
 
 parts-at-enum-told-2 : (t : ℕ) → parts-at-lts.Need-enum-told-2 (parts-at-claims t) (parts-at-at t) parts-at.Post parts-at-Inv-loop parts-at-μ-loop
 parts-at-enum-told-2 t c = search needs
@@ -193,44 +218,65 @@ parts-at-same-length-3 : (t : ℕ) → parts-at-lts.Need-same-length-3 (parts-at
 parts-at-same-length-3 t c = c .before .before .before .before .before .loop .inv .1
 
 parts-at-returns-3 : (t : ℕ) → parts-at-lts.Need-returns-3 (parts-at-claims t) (parts-at-at t) parts-at.Post parts-at-Inv-loop parts-at-μ-loop
-parts-at-returns-3 t c = let a = c .before .before .before .before .before .before .before .before .before .before .args in let l = c .before .before .before .before .before .loop in walked-done (a .mode) _ _ _ _ _ _ _ _ _ (l .inv .0) (path-refused (a .mode) (a .path .now) (between (a .body .now) (a .start) (a .end)) (l .at) _ (sym (c .enum-told2 .given .1) ∙ (c .before .before .read-field .ensures)))
+parts-at-returns-3 t c =
+    let l = c .before .before .before .before .before .loop in
+    let a = c .before .before .before .before .before .before .before .before .before .before .args in
+    walked-done (a .mode) _ _ _ _ _ _ _ _ _ (l .inv .0)
+    (path-refused (a .mode) (a .path .now) (between (a .body .now) (a .start) (a .end)) (l .at) _
+    (sym (c .enum-told2 .given .1) ∙ (c .before .before .read-field .ensures)))
 
 parts-at-enum-known-step : (t : ℕ) → parts-at-lts.Need-enum-known-step (parts-at-claims t) (parts-at-at t) parts-at.Post parts-at-Inv-loop parts-at-μ-loop
 parts-at-enum-known-step t c = search needs
 
 parts-at-field-at-requires : (t : ℕ) → parts-at-lts.Need-field-at-requires (parts-at-claims t) (parts-at-at t) parts-at.Post parts-at-Inv-loop parts-at-μ-loop
-parts-at-field-at-requires t c κs = let a = c .before .before .before .before .before .before .before .before .before .before .before .before .args in let l = c .before .before .before .before .before .before .before .loop in
+parts-at-field-at-requires t c κs =
+    let l = c .before .before .before .before .before .before .before .loop in
+    let if1 = c .before .before .before .before .before .before .before .before .if1 in
+    let b = c .before .before .before .before .before .before .before .before .before .before .before .before in
+    let a = b .args in
+    let pre = b .pre in
     let e = sym (c .before .before .step .given .1) ∙ (c .before .before .before .before .read-field .ensures) in
     let m = field-stands (a .mode) (between (a .body .now) (a .start) (a .end)) (l .at) _ e in (
-      omega (arith, (c .before .before .before .before .before .before .before .before .before .before .before .before .pre .0)),
+      omega (arith, (pre .0)),
       (
         (
-          (c .before .before .before .before .before .before .before .before .before .before .before .before .pre .1 .0 .0),
-          (c .before .before .before .before .before .before .before .before .before .before .before .before .pre .1 .0 .1),
-          omega
-              (arith, (c .before .before .before .before .before .before .before .before .if1 .left)),
+          (pre .1 .0 .0),
+          (pre .1 .0 .1),
+          omega (arith, (if1 .left)),
         ),
         (
           record { order = m .ends; fits = m .within },
           (
             l .inv .0 .parts,
-            walked-room _ _ _ _ _ _ _ _ _ _ (l .inv .0) _ e (l .inv .1)
-                (c .before .before .before .before .before .before .before .before .before .before .before .before .pre .1 .1 .1),
+            walked-room _ _ _ _ _ _ _ _ _ _ (l .inv .0) _ e (l .inv .1) (pre .1 .1 .1),
           ),
         ),
       ),
     )
 
 parts-at-loop-less : (t : ℕ) → parts-at-lts.Need-loop-less (parts-at-claims t) (parts-at-at t) parts-at.Post parts-at-Inv-loop parts-at-μ-loop
-parts-at-loop-less t c = let a = c .before .before .before .before .before .before .before .before .before .before .before .before .before .before .before .args in let l = c .before .before .before .before .before .before .before .before .before .before .loop in
-    let m = field-stands (a .mode) (between (a .body .now) (a .start) (a .end)) (l .at) _ (sym (c .before .before .before .before .before .step .given .1) ∙ (c .before .before .before .before .before .before .before .read-field .ensures)) in
-    omega (arith, m .tagged, m .begins, m .ends, (c .before .before .before .before .before .before .before .before .before .loop-test .taken))
+parts-at-loop-less t c =
+    let read-field = c .before .before .before .before .before .before .before .read-field in
+    let loop-test = c .before .before .before .before .before .before .before .before .before .loop-test in
+    let l = c .before .before .before .before .before .before .before .before .before .before .loop in
+    let b = c .before .before .before .before .before .before .before .before .before .before in
+    let a = b .before .before .before .before .before .args in
+    let m = field-stands (a .mode) (between (a .body .now) (a .start) (a .end)) (l .at) _
+    (sym (c .before .before .before .before .before .step .given .1) ∙ (read-field .ensures)) in
+    omega (arith, m .tagged, m .begins, m .ends, (loop-test .taken))
 
 parts-at-loop-again : (t : ℕ) → parts-at-lts.Need-loop-again (parts-at-claims t) (parts-at-at t) parts-at.Post parts-at-Inv-loop parts-at-μ-loop
-parts-at-loop-again t c = let a = c .before .before .before .before .before .before .before .before .before .before .before .before .before .before .before .args in let l = c .before .before .before .before .before .before .before .before .before .before .loop in
-    let e = sym (c .before .before .before .before .before .step .given .1) ∙ (c .before .before .before .before .before .before .before .read-field .ensures) in
-    let k = l .inv .1 in
-    (walked-turn _ _ _ _ _ _ _ _ _ _ (l .inv .0) _ e _ _ (c .before .before .field-at .ensures .0) (c .before .before .field-at .ensures .1), omega arith)
+parts-at-loop-again t c =
+    let read-field = c .before .before .before .before .before .before .before .read-field in
+    let l = c .before .before .before .before .before .before .before .before .before .before .loop in
+    let b = c .before .before .before .before .before .before .before .before .before .before in
+    let a = b .before .before .before .before .before .args in
+    let e = sym (c .before .before .before .before .before .step .given .1) ∙ (read-field .ensures) in
+    let k = l .inv .1 in (
+      walked-turn _ _ _ _ _ _ _ _ _ _ (l .inv .0) _ e _ _ (c .before .before .field-at .ensures .0)
+          (c .before .before .field-at .ensures .1),
+      omega arith,
+    )
 
 parts-at-same-length-4 : (t : ℕ) → parts-at-lts.Need-same-length-4 (parts-at-claims t) (parts-at-at t) parts-at.Post parts-at-Inv-loop parts-at-μ-loop
 parts-at-same-length-4 t c = c .before .loop .inv .1

@@ -48,9 +48,15 @@ sub-emit-head : tie.Need-sub-emit-head Inv-loop μ-loop
 sub-emit-head c = (c .before .before .before .before .before .before .before .pre .0 .within) (c .before .before .before .loop .i) (c .before .before .loop-test .taken) .0
 
 emit-head-requires : tie.Need-emit-head-requires Inv-loop μ-loop
-emit-head-requires c κs = let a = c .before .before .before .before .before .before .before .before .args in let l = c .before .before .before .before .loop in
-    let x = tag (a .field) 2 ++ uvarint (getD (a .table .now) (l .i * 2 + 1) 0 - getD (a .table .now) (l .i * 2) 0) in
-    ((c .before .before .before .before .before .before .before .before .pre .1 .0), going-fits _ _ _ _ _ _ (l .inv .1) x _ (write-turn (a .field) (a .s .now) (a .table .now) (a .n) (l .i) (c .before .before .before .before .before .before .before .before .pre .0) (c .before .before .before .loop-test .taken)))
+emit-head-requires c κs =
+    let l = c .before .before .before .before .loop in
+    let a = c .before .before .before .before .before .before .before .before .args in
+    let pre = c .before .before .before .before .before .before .before .before .pre in
+    let x = tag (a .field) 2 ++ uvarint (getD (a .table .now) (l .i * 2 + 1) 0 - getD (a .table .now) (l .i * 2) 0) in (
+      (pre .1 .0),
+      going-fits _ _ _ _ _ _ (l .inv .1) x _
+          (write-turn (a .field) (a .s .now) (a .table .now) (a .n) (l .i) (pre .0) (c .before .before .before .loop-test .taken)),
+    )
 
 sub-emit-bytes : tie.Need-sub-emit-bytes Inv-loop μ-loop
 sub-emit-bytes c = (c .before .before .before .before .before .before .before .before .before .before .before .pre .0 .within) (c .before .before .before .before .before .before .before .loop .i) (c .before .before .before .before .before .before .loop-test .taken) .0
@@ -62,8 +68,15 @@ part-emit-bytes-end : tie.Need-part-emit-bytes-end Inv-loop μ-loop
 part-emit-bytes-end c = (c .before .before .before .before .before .before .before .before .before .before .before .pre .0 .within) (c .before .before .before .before .before .before .before .loop .i) (c .before .before .before .before .before .before .loop-test .taken) .1
 
 emit-bytes-requires : tie.Need-emit-bytes-requires Inv-loop μ-loop
-emit-bytes-requires c κs = let a = c .before .before .before .before .before .before .before .before .before .before .before .before .before .args in let l = c .before .before .before .before .before .before .before .before .before .loop in
-    let g = going-part _ _ _ _ _ _ (l .inv .1) _ _ (write-turn (a .field) (a .s .now) (a .table .now) (a .n) (l .i) (c .before .before .before .before .before .before .before .before .before .before .before .before .before .pre .0) (c .before .before .before .before .before .before .before .before .loop-test .taken)) _ _ (c .before .before .before .before .emit-head .ensures) in
+emit-bytes-requires c κs =
+    let loop-test = c .before .before .before .before .before .before .before .before .loop-test in
+    let l = c .before .before .before .before .before .before .before .before .before .loop in
+    let b = c .before .before .before .before .before .before .before .before .before .before .before .before .before in
+    let a = b .args in
+    let pre = b .pre in
+    let g = going-part _ _ _ _ _ _ (l .inv .1) _ _
+    (write-turn (a .field) (a .s .now) (a .table .now) (a .n) (l .i) (pre .0) (loop-test .taken)) _ _
+    (c .before .before .before .before .emit-head .ensures) in
     going-fits _ _ _ _ _ _ g (partAt (a .s .now) (a .table .now) (l .i)) _ refl
 
 add-i : tie.Need-add-i Inv-loop μ-loop

@@ -100,9 +100,18 @@ named-less : tie.Need-named-less Inv-loop μ-loop Inv-named μ-named
 named-less c = search needs
 
 named-again : tie.Need-named-again Inv-loop μ-loop Inv-named μ-named
-named-again c = let a = c .before .before .before .before .before .before .before .before .before .before .before .before .before .before .before .args in let m = c .before .before .before .before .before .before .before .before .before .before .before .named in let l = c .before .before .before .before .before .before .before .loop in
-    let x = partAt (a .body .now) (a .from .now) (m .i) in
-    (again _ _ _ _ _ _ (m .inv .0) (c .before .before .before .before .before .before .before .before .before .before .named-test .taken) (look-here x (a .body .now) (m .to) (m .k) (l .j) (l .inv .1) _ (c .before .before .before .before .before .before .loop-test .taken) (c .before .same .ensures) (c .if1 .taken)), m .inv .1)
+named-again c =
+    let l = c .before .before .before .before .before .before .before .loop in
+    let named-test = c .before .before .before .before .before .before .before .before .before .before .named-test in
+    let m = c .before .before .before .before .before .before .before .before .before .before .before .named in
+    let b = c .before .before .before .before .before .before .before .before .before .before in
+    let a = b .before .before .before .before .before .args in
+    let x = partAt (a .body .now) (a .from .now) (m .i) in (
+      again _ _ _ _ _ _ (m .inv .0) (named-test .taken)
+          (look-here x (a .body .now) (m .to) (m .k) (l .j) (l .inv .1) _
+          (c .before .before .before .before .before .before .loop-test .taken) (c .before .same .ensures) (c .if1 .taken)),
+      m .inv .1,
+    )
 
 add-j : tie.Need-add-j Inv-loop μ-loop Inv-named μ-named
 add-j c = search needs
@@ -111,9 +120,16 @@ loop-less : tie.Need-loop-less Inv-loop μ-loop Inv-named μ-named
 loop-less c = search needs
 
 loop-again : tie.Need-loop-again Inv-loop μ-loop Inv-named μ-named
-loop-again c = let a = c .before .before .before .before .before .before .before .before .before .before .before .before .before .before .before .args in let m = c .before .before .before .before .before .before .before .before .before .before .before .named in let l = c .before .before .before .before .before .before .before .loop in
-    let x = partAt (a .body .now) (a .from .now) (m .i) in
-    (omega arith, look-more x (a .body .now) (m .to) (m .k) (l .j) (l .inv .1) _ (c .before .before .before .before .before .before .loop-test .taken) (c .before .same .ensures) (c .if1 .left))
+loop-again c =
+    let l = c .before .before .before .before .before .before .before .loop in
+    let m = c .before .before .before .before .before .before .before .before .before .before .before .named in
+    let b = c .before .before .before .before .before .before .before .before .before .before in
+    let a = b .before .before .before .before .before .args in
+    let x = partAt (a .body .now) (a .from .now) (m .i) in (
+      omega arith,
+      look-more x (a .body .now) (m .to) (m .k) (l .j) (l .inv .1) _
+          (c .before .before .before .before .before .before .loop-test .taken) (c .before .same .ensures) (c .if1 .left),
+    )
 
 add-part-requires : tie.Need-add-part-requires Inv-loop μ-loop Inv-named μ-named
 add-part-requires c κs = let m = c .before .before .before .before .before .before .named in let f = m .inv .0 .fewer in let k = m .inv .1 in omega (arith, (c .before .before .before .before .before .before .before .before .before .before .pre .1))

@@ -76,9 +76,17 @@ add-size-2 c = let a = c .before .before .before .before .before .before .before
     (omega (arith, (c .before .before .before .before .before .before .before .before .before .good .0 .1))) in omega arith
 
 returns : tie.Need-returns Inv-loop μ-loop
-returns c = let a = c .before .before .before .before .before .before .before .before .before .before .args in let l = c .before .before .before .before .before .before .before .loop in
-    let z = field-size (a .field) (a .s .now) (a .table .now) (a .n) (l .i) (c .before .before .before .before .before .before .before .before .before .before .pre .0) (c .before .before .before .before .before .before .loop-test .taken) _ _ (c .before .before .uvarint-len .ensures) (c .before .uvarint-len2 .ensures) in
-    (fit-stop (a .field) (a .s .now) (a .table .now) (a .n) (l .i) (c .before .before .before .before .before .before .before .before .before .before .pre .0) (c .before .before .before .before .before .before .loop-test .taken) (a .room) (l .left) _ z (l .inv .1) (c .if1 .taken), l .inv .0)
+returns c =
+    let loop-test = c .before .before .before .before .before .before .loop-test in
+    let l = c .before .before .before .before .before .before .before .loop in
+    let a = c .before .before .before .before .before .before .before .before .before .before .args in
+    let pre = c .before .before .before .before .before .before .before .before .before .before .pre in
+    let z = field-size (a .field) (a .s .now) (a .table .now) (a .n) (l .i) (pre .0) (loop-test .taken) _ _
+    (c .before .before .uvarint-len .ensures) (c .before .uvarint-len2 .ensures) in (
+      fit-stop (a .field) (a .s .now) (a .table .now) (a .n) (l .i) (pre .0) (loop-test .taken) (a .room) (l .left) _ z (l .inv .1)
+          (c .if1 .taken),
+      l .inv .0,
+    )
 
 add-i : tie.Need-add-i Inv-loop μ-loop
 add-i c = search needs
@@ -87,9 +95,17 @@ loop-less : tie.Need-loop-less Inv-loop μ-loop
 loop-less c = search needs
 
 loop-again : tie.Need-loop-again Inv-loop μ-loop
-loop-again c = let a = c .before .before .before .before .before .before .before .before .before .before .args in let l = c .before .before .before .before .before .before .before .loop in
-    let z = field-size (a .field) (a .s .now) (a .table .now) (a .n) (l .i) (c .before .before .before .before .before .before .before .before .before .before .pre .0) (c .before .before .before .before .before .before .loop-test .taken) _ _ (c .before .before .uvarint-len .ensures) (c .before .uvarint-len2 .ensures) in
-    (omega arith, fit-turn (a .field) (a .s .now) (a .table .now) (a .n) (l .i) (c .before .before .before .before .before .before .before .before .before .before .pre .0) (c .before .before .before .before .before .before .loop-test .taken) (a .room) (l .left) _ z (l .inv .1) (c .if1 .left))
+loop-again c =
+    let loop-test = c .before .before .before .before .before .before .loop-test in
+    let l = c .before .before .before .before .before .before .before .loop in
+    let a = c .before .before .before .before .before .before .before .before .before .before .args in
+    let pre = c .before .before .before .before .before .before .before .before .before .before .pre in
+    let z = field-size (a .field) (a .s .now) (a .table .now) (a .n) (l .i) (pre .0) (loop-test .taken) _ _
+    (c .before .before .uvarint-len .ensures) (c .before .uvarint-len2 .ensures) in (
+      omega arith,
+      fit-turn (a .field) (a .s .now) (a .table .now) (a .n) (l .i) (pre .0) (loop-test .taken) (a .room) (l .left) _ z
+          (l .inv .1) (c .if1 .left),
+    )
 
 returns-2 : tie.Need-returns-2 Inv-loop μ-loop
 returns-2 c = let a = c .before .before .before .before .args in let l = c .before .loop in (fit-done (a .field) (a .s .now) (a .table .now) (a .n) (l .i) (a .room) (l .left) (c .loop-test .left) (l .inv .1), l .inv .0)

@@ -53,7 +53,11 @@ is-apart-requires : tie.Need-is-apart-requires Inv-loop μ-loop
 is-apart-requires c κs = (c .before .before .before .before .before .before .before .before .before .before .pre .1 .0)
 
 add-where-requires : tie.Need-add-where-requires Inv-loop μ-loop
-add-where-requires c κs = let m = (c .before .before .before .before .before .before .loop) in picked-room _ _ _ _ _ _ _ (m .inv .0) _ (c .before .before .before .before .before .loop-test .taken) (c .before .before .before .before .before .before .before .before .before .before .before .before .pre .1 .1) (m .inv .1)
+add-where-requires c κs =
+    let m = c .before .before .before .before .before .before .loop in
+    let b = c .before .before .before .before .before .before .before .before .before .before in
+    let pre = b .before .before .pre in
+    picked-room _ _ _ _ _ _ _ (m .inv .0) _ (c .before .before .before .before .before .loop-test .taken) (pre .1 .1) (m .inv .1)
 
 add-i : tie.Need-add-i Inv-loop μ-loop
 add-i c = search needs
