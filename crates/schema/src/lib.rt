@@ -2,9 +2,7 @@
 // where its singular fields stand. One walk over the fields serves every message.
 ghost use Prim.Native.Nat.{_+_, _<_};
 ghost use mathlib.Core.Path.{_≡_};
-ghost use mathlib.Core.List.{[], _∷_};
 ghost use lib.ListN.{length};
-ghost use Rattle.schema.specs.declared.Kind.the-variants.{Rpc, SubOpts, RawMessage, ControlMessage, ControlIHave, ControlPrune, PeerInfo};
 ghost use Rattle.schema.specs.Schema.{addedIn, table, rowFrom, rowOf, isVarint, roleOf, formedAs, heldOf, ownOf};
 ghost use Rattle.schema.specs.Accept.{bodyRecords, acceptOf};
 ghost use Rattle.schema.specs.Count.{FieldWithin, counted, fieldCount, textCount};
@@ -131,141 +129,118 @@ fn added(edition: Edition, field: u64) -> Role
     }
 }
 
-// The role of a field of a message that has only field 1.
-fn only_row(role: Role, field: u64) -> Role
-    ensures { λ r. ⌜ r ≡ rowFrom 1 (role ∷ []) field ⌝ }
-{
-    if field == 1 {
-        return role;
-    }
-    Role::Skip
-}
-
-fn rpc_row(edition: Edition, field: u64) -> Role
-    ensures { λ r. ⌜ r ≡ rowOf (Rpc edition) field ⌝ }
-{
-    if field == 1 {
-        return Role::Sub(Kind::SubOpts, Form::Anew);
-    }
-    if field == 2 {
-        return Role::Sub(Kind::RawMessage, Form::Whole);
-    }
-    if field == 3 {
-        return Role::Sub(Kind::ControlMessage(edition), Form::Merged);
-    }
-    Role::Skip
-}
-
-fn sub_opts_row(field: u64) -> Role
-    ensures { λ r. ⌜ r ≡ rowOf SubOpts field ⌝ }
-{
-    if field == 1 {
-        return Role::Number(Figure::Flag);
-    }
-    if field == 2 {
-        return Role::Text(1);
-    }
-    Role::Skip
-}
-
-fn raw_message_row(field: u64) -> Role
-    ensures { λ r. ⌜ r ≡ rowOf RawMessage field ⌝ }
-{
-    if field == 1 {
-        return Role::Bytes(1);
-    }
-    if field == 2 {
-        return Role::Bytes(2);
-    }
-    if field == 3 {
-        return Role::Bytes(3);
-    }
-    if field == 4 {
-        return Role::Topic;
-    }
-    if field == 5 {
-        return Role::Unsigned(4);
-    }
-    if field == 6 {
-        return Role::Unsigned(5);
-    }
-    Role::Skip
-}
-
-fn control_row(edition: Edition, field: u64) -> Role
-    ensures { λ r. ⌜ r ≡ rowOf (ControlMessage edition) field ⌝ }
-{
-    if field == 1 {
-        return Role::Sub(Kind::ControlIHave, Form::Anew);
-    }
-    if field == 2 {
-        return Role::Sub(Kind::ControlIWant, Form::Anew);
-    }
-    if field == 3 {
-        return Role::Sub(Kind::ControlGraft, Form::Anew);
-    }
-    if field == 4 {
-        return Role::Sub(Kind::ControlPrune, Form::Anew);
-    }
-    added(edition, field)
-}
-
-fn ihave_row(field: u64) -> Role
-    ensures { λ r. ⌜ r ≡ rowOf ControlIHave field ⌝ }
-{
-    if field == 1 {
-        return Role::Text(1);
-    }
-    if field == 2 {
-        return Role::MessageId;
-    }
-    Role::Skip
-}
-
-fn prune_row(field: u64) -> Role
-    ensures { λ r. ⌜ r ≡ rowOf ControlPrune field ⌝ }
-{
-    if field == 1 {
-        return Role::Text(1);
-    }
-    if field == 2 {
-        return Role::Sub(Kind::PeerInfo, Form::Anew);
-    }
-    if field == 3 {
-        return Role::Number(Figure::Exact);
-    }
-    Role::Skip
-}
-
-fn peer_info_row(field: u64) -> Role
-    ensures { λ r. ⌜ r ≡ rowOf PeerInfo field ⌝ }
-{
-    if field == 1 {
-        return Role::Bytes(1);
-    }
-    if field == 2 {
-        return Role::Bytes(2);
-    }
-    Role::Skip
-}
-
 // The role of a message's field, by its number: the table of messages.
 pub fn row_of(kind: Kind, field: u64) -> Role
     ensures { λ r. ⌜ r ≡ rowOf kind field ⌝ }
 {
     match kind {
-        Kind::Rpc(edition) => rpc_row(edition, field),
-        Kind::SubOpts => sub_opts_row(field),
-        Kind::RawMessage => raw_message_row(field),
+        Kind::Rpc(edition) => {
+            if field == 1 {
+                return Role::Sub(Kind::SubOpts, Form::Anew);
+            }
+            if field == 2 {
+                return Role::Sub(Kind::RawMessage, Form::Whole);
+            }
+            if field == 3 {
+                return Role::Sub(Kind::ControlMessage(edition), Form::Merged);
+            }
+            Role::Skip
+        }
+        Kind::SubOpts => {
+            if field == 1 {
+                return Role::Number(Figure::Flag);
+            }
+            if field == 2 {
+                return Role::Text(1);
+            }
+            Role::Skip
+        }
+        Kind::RawMessage => {
+            if field == 1 {
+                return Role::Bytes(1);
+            }
+            if field == 2 {
+                return Role::Bytes(2);
+            }
+            if field == 3 {
+                return Role::Bytes(3);
+            }
+            if field == 4 {
+                return Role::Topic;
+            }
+            if field == 5 {
+                return Role::Unsigned(4);
+            }
+            if field == 6 {
+                return Role::Unsigned(5);
+            }
+            Role::Skip
+        }
         Kind::Topic => Role::Skip,
-        Kind::ControlMessage(edition) => control_row(edition, field),
-        Kind::ControlIHave => ihave_row(field),
-        Kind::ControlIWant => only_row(Role::MessageId, field),
+        Kind::ControlMessage(edition) => {
+            if field == 1 {
+                return Role::Sub(Kind::ControlIHave, Form::Anew);
+            }
+            if field == 2 {
+                return Role::Sub(Kind::ControlIWant, Form::Anew);
+            }
+            if field == 3 {
+                return Role::Sub(Kind::ControlGraft, Form::Anew);
+            }
+            if field == 4 {
+                return Role::Sub(Kind::ControlPrune, Form::Anew);
+            }
+            added(edition, field)
+        }
+        Kind::ControlIHave => {
+            if field == 1 {
+                return Role::Text(1);
+            }
+            if field == 2 {
+                return Role::MessageId;
+            }
+            Role::Skip
+        }
+        Kind::ControlIWant => {
+            if field == 1 {
+                return Role::MessageId;
+            }
+            Role::Skip
+        }
         Kind::MessageId => Role::Skip,
-        Kind::ControlGraft => only_row(Role::Text(1), field),
-        Kind::ControlPrune => prune_row(field),
-        Kind::PeerInfo => peer_info_row(field),
-        Kind::ControlIDontWant => only_row(Role::MessageId, field),
+        Kind::ControlGraft => {
+            if field == 1 {
+                return Role::Text(1);
+            }
+            Role::Skip
+        }
+        Kind::ControlPrune => {
+            if field == 1 {
+                return Role::Text(1);
+            }
+            if field == 2 {
+                return Role::Sub(Kind::PeerInfo, Form::Anew);
+            }
+            if field == 3 {
+                return Role::Number(Figure::Exact);
+            }
+            Role::Skip
+        }
+        Kind::PeerInfo => {
+            if field == 1 {
+                return Role::Bytes(1);
+            }
+            if field == 2 {
+                return Role::Bytes(2);
+            }
+            Role::Skip
+        }
+        Kind::ControlIDontWant => {
+            if field == 1 {
+                return Role::MessageId;
+            }
+            Role::Skip
+        }
     }
 }
 
