@@ -1,5 +1,7 @@
 // Whether a message may be taken: `verify`'s order of checks without its cryptography, for which the host gives its word, and the scope's limits on
 // topics and size. The caches and the node use these rules.
+#![tactic(auto)]
+
 pub mod told;
 
 ghost use Rattle.std.specs.Prelude.{◌≡◌, true, cond, ◌+◌, ◌≤◌, ◌<◌, length, set};
@@ -34,7 +36,7 @@ pub const ALLOW_UNSIGNED: usize = 1;
 pub const MAX_FLAGS: usize = 3;
 
 // Why a message is not taken: 21 to 30 and 34 to 36 of the scope's table, in its order, under verify's names where it has them.
-#[derive(Drop)]
+#[derive(Clone, Copy)]
 pub enum Unfit {
     MissingFrom,
     InvalidFrom(usize),
@@ -52,7 +54,7 @@ pub enum Unfit {
 }
 
 // Where from and seqno stand in a message that may be taken, or why it may not.
-#[derive(Drop)]
+#[derive(Clone, Copy)]
 pub enum Admission {
     Unfit(Unfit),
     Fit {
@@ -64,7 +66,7 @@ pub enum Admission {
 }
 
 // The topics of a message: how many there are, and the length of the first that is too long, 0 where none is.
-#[derive(Drop)]
+#[derive(Clone, Copy)]
 pub struct Topics {
     pub count: usize,
     pub long: usize,

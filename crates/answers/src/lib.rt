@@ -1,5 +1,7 @@
 // The lines that answer a call on a node, at the front of out. `full` says whether the values beside a refusal and its place are printed. A line wants 256
 // bytes, that of a writer 131,350; where they are not there nothing is written. A writer's buffer of more than 65,600 bytes has no line.
+#![tactic(auto)]
+
 ghost use Rattle.lines.specs.Lines.{Wrote};
 ghost use Rattle.answers.specs.Answers.{set_line, admit_line, beat_line, advertise_line, ask_line, serve_line};
 ghost use Rattle.answers.specs.Answers.{offer_line, why_line, gateway_line};

@@ -1,5 +1,7 @@
 // What several crates share: the dialect in which a body is read, what a call tells, the answer of a writer, the test for room, and little-endian numbers. The specs hold the case and
 // list laws that more than one crate cites.
+#![tactic(auto)]
+
 pub mod refusals;
 
 ghost use Rattle.std.specs.Prelude.{◌≡◌, [], ◌∷◌, ◌+◌, ◌≤◌, min, length, take, drop, leb};
@@ -13,21 +15,21 @@ ghost use Rattle.basis.specs.Dialect.{edition_of, mode_of, dialect_of};
 ghost use Rattle.basis.specs.Unique.{Leaves};
 
 // The editions of gossipsub: 1.1, and 1.2, whose controls also hold IDONTWANTs.
-#[derive(Drop)]
+#[derive(Clone, Copy)]
 pub enum Edition {
     V11,
     V12,
 }
 
 // The reading modes: groups, the wire types 3 and 4, are refused, as the Rust does; or they are passed over.
-#[derive(Drop)]
+#[derive(Clone, Copy)]
 pub enum Mode {
     Plain,
     Groups,
 }
 
 // How a body is read.
-#[derive(Drop)]
+#[derive(Clone, Copy)]
 pub struct Dialect {
     pub edition: Edition,
     pub mode: Mode,
@@ -64,7 +66,7 @@ pub fn dialect_of(number: u64) -> Dialect
 
 // Where in a body a refusal stands: how many bytes after the body's start, and the numbers of the fields that enclose it, the outermost first, 0
 // for none. Or that it is no refusal of a body's bytes.
-#[derive(Drop)]
+#[derive(Clone, Copy)]
 pub enum Spot {
     Nowhere,
     At {
@@ -106,7 +108,7 @@ pub fn depth(outer: u64, middle: u64, inner: u64) -> u64
 }
 
 // What a call tells: the scope's number, 0 where it is done, and how many values stand beside it; the others are 0. And where in the body it stands.
-#[derive(Drop)]
+#[derive(Clone, Copy)]
 pub struct Told {
     pub number: u8,
     pub count: u8,
@@ -205,7 +207,7 @@ impl Told {
 }
 
 // What a writer did: it wrote so many bytes at the front of the lent slice; or that many do not fit, and it wrote none (refusal 12).
-#[derive(Drop)]
+#[derive(Clone, Copy)]
 pub enum Written {
     Bytes(usize),
     Room(usize),

@@ -8,7 +8,7 @@ use lines::{refusal_line, told_line};
 use mcache::told::{told_gossip, told_lent, told_lookup, told_put, told_start};
 use mcache::{GossipIds, Lookup, MessageCache, Start};
 
-#[derive(Drop)]
+#[derive(Clone, Copy)]
 pub(crate) struct CachePart {
     pub go: bool,
     pub started: bool,

@@ -3,6 +3,8 @@
 // 3 clean (now u64), 4 next, 5 contains (id), 6 cache (history_len u16, max_messages u16, next arrival number u64), 7 put (index u16, body),
 // 8 shift, 9 gossip (windows u16, topic), 10 get (id), 16 as 6, and then flags u16 (bit 0: unsigned messages are allowed; bit 1: groups are
 // passed over), 17 an edition u8 (0 is 1.1, 1 is 1.2), and then as 7.
+#![tactic(auto)]
+
 mod answers;
 mod cache_part;
 mod say;
@@ -16,7 +18,7 @@ use seen_part::{SeenPart, no_seen, seen_turn};
 use text::{Header, next_record};
 
 // The two parts of a run, and whether to go on.
-#[derive(Drop)]
+#[derive(Clone, Copy)]
 struct Run {
     go: bool,
     seen: SeenPart,

@@ -6,7 +6,7 @@ use super::say::{last, print_line, say};
 use seen::SeenCache;
 use seen::told::{told_contains, told_gc, told_insert, told_next};
 
-#[derive(Drop)]
+#[derive(Clone, Copy)]
 pub(crate) struct SeenPart {
     pub go: bool,
     pub started: bool,

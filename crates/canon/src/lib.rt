@@ -1,1 +1,2 @@
 // The canonical bytes of a body: definitions and laws only. `encode` writes them.
+#![tactic(auto)]

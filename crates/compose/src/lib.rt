@@ -1,6 +1,8 @@
 // Writing an RPC from lists, from message.rs: subscriptions, grafts, prunes, and messages built from their fields. The lists are rows of the decoder's own
 // table over lent bytes. Each writer says where its bytes end, and puts them there where there is room: lent no bytes, it measures. Places may overlap, so the
 // bytes may be more than a number of the machine counts: an end stops at 2^64 - 1.
+#![tactic(auto)]
+
 pub mod told;
 
 ghost use Rattle.std.specs.Prelude.{◌≡◌, true, [], ◌++◌, ◌+◌, ◌*◌, ◌/◌, ◌≤◌, ◌<◌, length, eqb};
@@ -42,7 +44,7 @@ const CONTROL_PRUNE: u64 = 9;
 const PEER_INFO: u64 = 10;
 
 // Why nothing is written: 40, 42, 7 with where the topic begins in the lent bytes, 11 with the number of rows, 20, a message's refusal, 13 with the length.
-#[derive(Drop)]
+#[derive(Clone, Copy)]
 pub enum Wrong {
     BadSetting,
     NotLent,
@@ -54,14 +56,14 @@ pub enum Wrong {
 }
 
 // What a test of the lists says.
-#[derive(Drop)]
+#[derive(Clone, Copy)]
 pub enum Lists {
     Fine,
     Refused(Wrong),
 }
 
 // What a call answers: how many bytes it wrote, or why none.
-#[derive(Drop)]
+#[derive(Clone, Copy)]
 pub enum Composed {
     Bytes(usize),
     Refused(Wrong),
@@ -69,7 +71,7 @@ pub enum Composed {
 }
 
 // Where a message stands in the table, or how many there are.
-#[derive(Drop)]
+#[derive(Clone, Copy)]
 pub enum Row {
     At(usize),
     Count(usize),

@@ -1,6 +1,8 @@
 // Writing a body anew, from message.rs: its canonical bytes, field by field as the table of messages has them. Each writer says where its
 // bytes end, and puts them there where there is room: lent no bytes, it measures. A body that is taken is read by the mode that passes over groups,
 // whatever mode took it: what the first mode takes both read alike.
+#![tactic(auto)]
+
 ghost use Rattle.std.specs.Prelude.{◌≡◌, [], ◌++◌, cond, ◌+◌, ◌≤◌, length};
 ghost use Rattle.basis.specs.Dialect.{spoken};
 ghost use Rattle.basis.specs.Writing.{answer, written, set_in};

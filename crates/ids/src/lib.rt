@@ -1,4 +1,6 @@
 // One message of a body, and its id, from seen.rs: from and seqno. The host lends the body and an output buffer.
+#![tactic(auto)]
+
 pub mod told;
 
 ghost use Rattle.std.specs.Prelude.{◌≡◌, cond, ◌&&◌, ◌||◌, [], ◌∷◌, ◌+◌, ◌-◌, ◌≤◌, ◌<◌, eqb, ltb, length};
@@ -11,14 +13,14 @@ use protobuf::{Checked, Field, Refusal, Step, WIRE_LEN, put_bytes, read_field};
 use schema::{Kind, Place, accept, slots_of};
 
 // Where a message stands in a body, or how many messages there are.
-#[derive(Drop)]
+#[derive(Clone, Copy)]
 pub enum MessageAt {
     At { start: usize, end: usize },
     Count(usize),
 }
 
 // Where from and seqno stand in a message, or why it has no id.
-#[derive(Drop)]
+#[derive(Clone, Copy)]
 pub enum MessageId {
     MissingFrom,
     InvalidFrom(usize),
@@ -32,7 +34,7 @@ pub enum MessageId {
 }
 
 // What a writer of one message's bytes did: so many bytes, or the room that it needs, or why there are none. The names are verify's.
-#[derive(Drop)]
+#[derive(Clone, Copy)]
 pub enum MessageBytes {
     Bytes(usize),
     Room(usize),

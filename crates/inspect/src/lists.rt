@@ -6,14 +6,14 @@ ghost use Rattle.inspect.specs.Lists.{word_if, fields_words, fields_end, words_b
 use basis::{has_room, little_at};
 
 // Where a row ends, or several; bad where one is cut or its mask is none.
-#[derive(Drop)]
+#[derive(Clone, Copy)]
 pub(crate) enum Ends {
     Bad,
     At(usize),
 }
 
 // How much room there is, how many words the rows have in the table, and where the lent bytes begin.
-#[derive(Drop)]
+#[derive(Clone, Copy)]
 pub(crate) enum Lent {
     Bad,
     Lists {

@@ -4,6 +4,8 @@
 // 10 write (lists), 11 tosign (index u16, lists); what lists are stands in specs/Lists.antt. 21 to 25 are a dialect u8, 0 to 3 (bit 0: 0 is gossipsub
 // 1.1, 1 is 1.2; bit 1: groups are passed over), and then as 1 to 5, which read in dialect 0. After the line of kinds 1 and 21 come those of the
 // body's records.
+#![tactic(auto)]
+
 mod lists;
 mod made;
 mod records;

@@ -1,4 +1,6 @@
 // Public keys, from key.rs: the protobuf around a key, its type and its data, in one fixed form.
+#![tactic(auto)]
+
 pub mod told;
 
 ghost use Rattle.std.specs.Prelude.{◌≡◌, ◌+◌, ◌≤◌, ◌<◌, length};
@@ -11,7 +13,7 @@ pub const TYPE_TAG: u8 = 0x08;
 pub const DATA_TAG: u8 = 0x12;
 
 // Which key it is: 0 to 3.
-#[derive(Drop)]
+#[derive(Clone, Copy)]
 pub enum KeyType {
     Rsa,
     Ed25519,
@@ -20,13 +22,13 @@ pub enum KeyType {
 }
 
 // The byte that stands where a tag is expected, if one does.
-#[derive(Drop)]
+#[derive(Clone, Copy)]
 pub enum Found {
     Byte(u8),
     Nothing,
 }
 
-#[derive(Drop)]
+#[derive(Clone, Copy)]
 pub enum PublicKeyError {
     EmptyInput,
     InvalidFieldTag {
@@ -43,7 +45,7 @@ pub enum PublicKeyError {
 }
 
 // A key's type, and where its data start in the input, whose end is theirs; or why there is none.
-#[derive(Drop)]
+#[derive(Clone, Copy)]
 pub enum PublicKey {
     Key { key_type: KeyType, start: usize },
     Refused(PublicKeyError),

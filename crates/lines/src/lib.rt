@@ -1,5 +1,7 @@
 // Lines and their pieces, for the programs that answer records. A writer wants a number of bytes, the same for each of its texts; where they are
 // not there, nothing is written, and the place comes back as it was.
+#![tactic(auto)]
+
 ghost use Rattle.std.specs.Prelude.{◌≡◌, ◌+◌, ◌-◌, ◌≤◌, cond, [], ◌∷◌, ◌++◌, length, take};
 ghost use Rattle.basis.specs.Spot.{fields_of};
 ghost use Rattle.basis.specs.declared.Spot.TheVariants.{At};

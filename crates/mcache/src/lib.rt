@@ -1,5 +1,7 @@
 // The heartbeat-windowed message cache, from mcache.rs: messages in a lent store, a place of 4,096 bytes each; their ids, lengths, windows, arrival
 // numbers and the places of their topics by value. The places are a ring, so that a message that leaves moves no other, and a freed place is used again.
+#![tactic(auto)]
+
 pub mod told;
 
 ghost use Rattle.std.specs.Prelude.{◌≡◌, ℕ, ◌+◌, ◌-◌, ◌*◌, ◌<◌, ◌≤◌, true, ◌++◌, map, length, take, drop, replicate, if◌then◌else◌, slice_index};
@@ -36,7 +38,7 @@ pub const MAX_HISTORY: usize = 16;
 
 pub const MAX_MESSAGES: usize = 64;
 
-#[derive(Drop)]
+#[derive(Clone, Copy)]
 pub struct MessageCache {
     pub history_len: usize,
     pub max_messages: usize,
@@ -55,26 +57,26 @@ pub struct MessageCache {
 }
 
 // Whether the lent state is one: 41 for a store of the wrong length, 42 for a cache that is not well formed.
-#[derive(Drop)]
+#[derive(Clone, Copy)]
 pub enum Lent {
     Fine,
     BadStore,
     Malformed,
 }
 
-#[derive(Drop)]
+#[derive(Clone, Copy)]
 pub enum Start {
     Started,
     BadSetting,
 }
 
-#[derive(Drop)]
+#[derive(Clone, Copy)]
 pub struct Started {
     pub answer: Start,
     pub cache: MessageCache,
 }
 
-#[derive(Drop)]
+#[derive(Clone, Copy)]
 pub enum Put {
     Stored,
     Held,
@@ -85,19 +87,19 @@ pub enum Put {
     Unfit(Unfit),
 }
 
-#[derive(Drop)]
+#[derive(Clone, Copy)]
 pub struct PutDone {
     pub answer: Put,
     pub cache: MessageCache,
 }
 
-#[derive(Drop)]
+#[derive(Clone, Copy)]
 pub struct Shifted {
     pub answer: Lent,
     pub cache: MessageCache,
 }
 
-#[derive(Drop)]
+#[derive(Clone, Copy)]
 pub enum Lookup {
     Found,
     Missing,
@@ -105,7 +107,7 @@ pub enum Lookup {
     Malformed,
 }
 
-#[derive(Drop)]
+#[derive(Clone, Copy)]
 pub enum Gossip {
     Ids,
     BadStore,
@@ -115,7 +117,7 @@ pub enum Gossip {
 
 // Whether an id is told of for a topic and the newest windows asked for, and why not: no message with it is cached; that one does not carry the topic;
 // it does, and its window has an age that they do not reach, the newest being 0.
-#[derive(Drop)]
+#[derive(Clone, Copy)]
 pub enum Offer {
     Listed,
     NotCached,
@@ -124,7 +126,7 @@ pub enum Offer {
 }
 
 // The places of the messages that are told of, in the order of their ids: the first `count` of rows.
-#[derive(Drop)]
+#[derive(Clone, Copy)]
 pub struct GossipIds {
     pub answer: Gossip,
     pub count: usize,

@@ -1,5 +1,7 @@
 // Reading a body, from message.rs: its records go to a table that the host lends. A body that is taken is read by the mode that passes over groups,
 // whatever mode took it: what the first mode takes both read alike.
+#![tactic(auto)]
+
 pub mod told;
 
 ghost use Rattle.std.specs.Prelude.{◌≡◌, [], ◌∷◌, ◌++◌, ◌+◌, ◌*◌, ◌≤◌, length};
@@ -22,7 +24,7 @@ use schema::{
 pub const RECORD_WORDS: usize = 20;
 
 // A record: its kind, where its bytes stand in the body, and its singular fields, whose places are counted from the record's start.
-#[derive(Drop)]
+#[derive(Clone, Copy)]
 pub struct Record {
     pub kind: Kind,
     pub start: usize,
@@ -30,13 +32,13 @@ pub struct Record {
     pub slots: Slots,
 }
 
-#[derive(Drop)]
+#[derive(Clone, Copy)]
 pub enum RecordAt {
     Record(Record),
     Nothing,
 }
 
-#[derive(Drop)]
+#[derive(Clone, Copy)]
 pub enum Decoded {
     Records { count: usize, control: bool },
     Refused(Refusal),

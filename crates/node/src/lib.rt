@@ -1,5 +1,7 @@
 // A gateway, the scope's "The node": the settings, the clock, the ids seen and the messages held. The node goes in by value and comes back, beside two
 // lent stores: seen, max_seen rows of 129 bytes, and cache, max_messages places of 4,096 bytes. Each call tests them first.
+#![tactic(auto)]
+
 mod parts;
 pub mod told;
 
@@ -42,7 +44,7 @@ use rows::{Ring, find_from, place};
 use schema::{MAX_RECORDS, accept};
 use seen::{ID_SIZE, MAX_IDS, SeenCache, expiry_of};
 
-#[derive(Drop)]
+#[derive(Clone, Copy)]
 pub struct Node {
     pub ttl: u64,
     pub max_seen: usize,
@@ -52,32 +54,32 @@ pub struct Node {
 }
 
 // What is wrong with a lent node and its stores: 40, 41, 42.
-#[derive(Drop)]
+#[derive(Clone, Copy)]
 pub enum Fault {
     BadSetting,
     BadStore,
     Malformed,
 }
 
-#[derive(Drop)]
+#[derive(Clone, Copy)]
 pub enum Lent {
     Fine,
     Faulty(Fault),
 }
 
-#[derive(Drop)]
+#[derive(Clone, Copy)]
 pub enum Start {
     Started,
     BadSetting,
 }
 
-#[derive(Drop)]
+#[derive(Clone, Copy)]
 pub struct Started {
     pub answer: Start,
     pub node: Node,
 }
 
-#[derive(Drop)]
+#[derive(Clone, Copy)]
 pub enum Admit {
     New,
     Duplicate,
@@ -88,26 +90,26 @@ pub enum Admit {
     ClockBack(u64),
 }
 
-#[derive(Drop)]
+#[derive(Clone, Copy)]
 pub struct Admitted {
     pub answer: Admit,
     pub node: Node,
 }
 
-#[derive(Drop)]
+#[derive(Clone, Copy)]
 pub enum Beat {
     Done,
     Faulty(Fault),
     ClockBack(u64),
 }
 
-#[derive(Drop)]
+#[derive(Clone, Copy)]
 pub struct Beaten {
     pub answer: Beat,
     pub node: Node,
 }
 
-#[derive(Drop)]
+#[derive(Clone, Copy)]
 pub enum Advertise {
     Bytes(usize),
     Faulty(Fault),
@@ -115,26 +117,26 @@ pub enum Advertise {
     Room(usize),
 }
 
-#[derive(Drop)]
+#[derive(Clone, Copy)]
 pub struct Advertised {
     pub answer: Advertise,
     pub node: Node,
 }
 
-#[derive(Drop)]
+#[derive(Clone, Copy)]
 pub enum Explain {
     Why(Offer),
     Faulty(Fault),
     TopicTooLong(usize),
 }
 
-#[derive(Drop)]
+#[derive(Clone, Copy)]
 pub struct Explained {
     pub answer: Explain,
     pub node: Node,
 }
 
-#[derive(Drop)]
+#[derive(Clone, Copy)]
 pub enum Ask {
     Bytes(usize),
     Faulty(Fault),
@@ -142,14 +144,14 @@ pub enum Ask {
     Room(usize),
 }
 
-#[derive(Drop)]
+#[derive(Clone, Copy)]
 pub struct Asked {
     pub answer: Ask,
     pub node: Node,
 }
 
 // How many bytes and messages were written, and how many cached ones were left.
-#[derive(Drop)]
+#[derive(Clone, Copy)]
 pub enum Serve {
     Reply {
         bytes: usize,
@@ -161,7 +163,7 @@ pub enum Serve {
     Room(usize),
 }
 
-#[derive(Drop)]
+#[derive(Clone, Copy)]
 pub struct Served {
     pub answer: Serve,
     pub node: Node,

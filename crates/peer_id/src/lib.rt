@@ -1,4 +1,6 @@
 // Unsigned varints, from peer_id.rs: groups of seven bits, the low group first. And which bytes are a peer id.
+#![tactic(auto)]
+
 pub mod told;
 
 ghost use Rattle.std.specs.Prelude.{◌≡◌, ◌+◌, ◌≤◌, length};
@@ -11,7 +13,7 @@ ghost use Rattle.peer_id.specs.PeerId.{hash_of, from_bytes};
 use basis::{Written, has_room};
 
 // Why there is no varint: refusals 1, 2 and 3.
-#[derive(Drop)]
+#[derive(Clone, Copy)]
 pub enum VarintError {
     BufferTooShort,
     Overflow,
@@ -19,14 +21,14 @@ pub enum VarintError {
 }
 
 // What reading finds: a value and how many bytes it took, or why there is none.
-#[derive(Drop)]
+#[derive(Clone, Copy)]
 pub enum Uvarint {
     Value { value: u64, used: usize },
     Refused(VarintError),
 }
 
 // What a byte says of the varint that it stands in.
-#[derive(Drop)]
+#[derive(Clone, Copy)]
 pub enum Group {
     More,
     Last,
@@ -155,7 +157,7 @@ pub const SHA256_LENGTH: usize = 32;
 pub const DIGEST_START: usize = 2;
 
 // What bytes are as a peer id: an identity or a SHA-256 multihash, whose digest is all that stands behind the first two bytes; or none.
-#[derive(Drop)]
+#[derive(Clone, Copy)]
 pub enum PeerId {
     Identity,
     Sha256,

@@ -12,7 +12,7 @@ use node::told::{
 use node::{Node, Start};
 
 // The node of a run, whether settings were accepted, how much of each store is lent, and whether to go on.
-#[derive(Drop)]
+#[derive(Clone, Copy)]
 pub struct Run {
     pub go: bool,
     pub started: bool,

@@ -1,6 +1,8 @@
 // Plays a trace from standard input on a node, a line for each record, as the scope's "The trace program" has it. A record is its content's length (u32),
 // its kind (u16) and its content, little-endian. Kinds: 1 settings (ttl u64; max_seen, history_len, max_messages u16), 2 admit (now u64, index
 // u16, verified u8, body), 3 heartbeat (now u64), 4 advertise (windows u16, topic), 5 ask (body), 6 serve (body).
+#![tactic(auto)]
+
 pub mod calls;
 
 ghost use Rattle.std.specs.Prelude.{◌≡◌, ◌≤◌, length};

@@ -1,6 +1,8 @@
 // The library as C and Rust programs link it. Each call answers a number, 0 or the refusal's in the table of refusals; `values`, where it is lent, gets what stands
 // beside it, at most four numbers (settings are five), and then the place of a refusal. The node lives in NODE_SIZE bytes that the host lends, its two stores in slices. A
 // refused call changes no buffer and no node.
+#![tactic(auto)]
+
 ghost use Rattle.std.specs.Prelude.{◌≡◌};
 ghost use Rattle.std.proofs.lemmas.List.Edits.{sets};
 ghost use Rattle.basis.specs.Told.{values_of};

@@ -1,5 +1,7 @@
 // The fields of a Protocol Buffers body, from protobuf.rs: reading, passing over, writing, and the host's walk. A place past the end of the
 // input answers as the end does.
+#![tactic(auto)]
+
 pub mod told;
 
 ghost use Rattle.std.specs.Prelude.{◌≡◌, ◌+◌, ◌≤◌, ◌<◌, ◌-◌, ◌%◌, length, drop, get_or, true};
@@ -38,7 +40,7 @@ pub const MAX_RPC_SIZE: usize = 65536;
 
 // Why a body is refused: 1 to 7 with the Rust's names, then 14 to 16 of groups, and 10 and 11, which the Rust does not have. An offset counts from the start of the slice
 // that was read: of a bad varint it is its first byte's, and the Rust does not have it.
-#[derive(Drop)]
+#[derive(Clone, Copy)]
 pub enum WireError {
     Varint {
         error: VarintError,
@@ -72,7 +74,7 @@ pub enum WireError {
 }
 
 // A refusal of a body, and where in the body it stands.
-#[derive(Drop)]
+#[derive(Clone, Copy)]
 pub struct Refusal {
     pub why: WireError,
     pub spot: Spot,
@@ -125,7 +127,7 @@ impl Refusal {
     }
 }
 
-#[derive(Drop)]
+#[derive(Clone, Copy)]
 pub enum Tag {
     End,
     Field {
@@ -137,19 +139,19 @@ pub enum Tag {
 }
 
 // A part of the input.
-#[derive(Drop)]
+#[derive(Clone, Copy)]
 pub enum Part {
     Bytes { start: usize, end: usize },
     Refused(WireError),
 }
 
-#[derive(Drop)]
+#[derive(Clone, Copy)]
 pub enum VarintValue {
     Value { value: u64, next: usize },
     Refused(WireError),
 }
 
-#[derive(Drop)]
+#[derive(Clone, Copy)]
 pub enum Skip {
     Next(usize),
     Refused(WireError),
@@ -157,7 +159,7 @@ pub enum Skip {
 
 // A field that was read. `value` is the varint after the tag, a value (type 0) or a length (type 2), and `start` the place after it: the
 // bytes of a length-delimited field stand from start to next. The other types have none: value is 0 and start is tag_end.
-#[derive(Drop)]
+#[derive(Clone, Copy)]
 pub struct Field {
     pub field: u64,
     pub wire_type: u8,
@@ -167,7 +169,7 @@ pub struct Field {
     pub next: usize,
 }
 
-#[derive(Drop)]
+#[derive(Clone, Copy)]
 pub enum Step {
     End,
     At(Field),
@@ -563,13 +565,13 @@ pub fn read_field(mode: Mode, input: &[u8], idx: usize) -> Step
 }
 
 // A place in a body, from which the host reads one top-level field after the other.
-#[derive(Drop)]
+#[derive(Clone, Copy)]
 pub struct Cursor {
     pub at: usize,
 }
 
 // What a step of the walk finds: a field with the place after its tag and the next place, or the end, or why the body is refused.
-#[derive(Drop)]
+#[derive(Clone, Copy)]
 pub enum Walk {
     End,
     Field {
@@ -615,7 +617,7 @@ impl Cursor {
 }
 
 // What a writer of a field did: as `Written`, or it refused a field number or a wire type that no tag can have.
-#[derive(Drop)]
+#[derive(Clone, Copy)]
 pub enum Encoded {
     Bytes(usize),
     Room(usize),
@@ -623,7 +625,7 @@ pub enum Encoded {
 }
 
 // Whether a body is taken, or a tag can be written.
-#[derive(Drop)]
+#[derive(Clone, Copy)]
 pub enum Checked {
     Fine,
     Refused(Refusal),

@@ -1,12 +1,14 @@
 // A reader that holds a body, a place in it and the mode, from which the host reads one top-level field after the other. The borrow checker covers
 // no function over a struct that holds a reference, so these are thin and proved by hand: a step's work is the cursor's.
+#![tactic(auto)]
+
 ghost use Rattle.std.specs.Prelude.{◌≡◌};
 ghost use Rattle.protobuf.specs.Field.{walk_step};
 
 use basis::Mode;
 use protobuf::{Cursor, Walk};
 
-#[derive(Drop)]
+#[derive(Clone, Copy)]
 pub struct Reader<'a> {
     pub body: &'a [u8],
     pub at: usize,

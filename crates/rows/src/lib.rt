@@ -1,4 +1,6 @@
 // Fixed rows in age order, for the caches: where a row stands in a ring of places, and comparing ids by their bytes.
+#![tactic(auto)]
+
 ghost use Rattle.std.specs.Prelude.{◌≡◌, false, cond, ◌+◌, ◌-◌, ◌*◌, min, take, drop, get_or, eqb};
 ghost use Rattle.rows.specs.Rows.{place_of};
 ghost use Rattle.rows.specs.Ids.{same_bytes, precedes_bytes, index_of, among, distinct};
@@ -8,7 +10,7 @@ ghost use Rattle.rows.specs.Store.{in_use, id_at, ids_in, all_up_to};
 use basis::least;
 
 // A lent store has `cap` places of one size; `count` of them are in use, from `start` on and from the last place to the first, the oldest first.
-#[derive(Drop)]
+#[derive(Clone, Copy)]
 pub struct Ring {
     pub cap: usize,
     pub start: usize,

@@ -1,5 +1,7 @@
 // The messages of the gossipsub protobuf, from message.rs: what each field is, how many records a message has or why it is refused, and
 // where its singular fields stand. One walk over the fields serves every message.
+#![tactic(auto)]
+
 ghost use Rattle.std.specs.Prelude.{◌+◌, ◌<◌, ◌≡◌, length};
 ghost use Rattle.schema.specs.Schema.{added_in, table, row_from, row_of, is_varint, role_of, formed_as, held_of, own_of};
 ghost use Rattle.schema.specs.Accept.{body_records, accept_of};
@@ -21,7 +23,7 @@ pub const MAX_RECORDS: usize = 512;
 
 // The messages of the gossipsub protobuf, and the two other kinds of record: a topic of a message and a message id. A message whose fields depend on
 // the edition, or which holds such a message, has it beside it.
-#[derive(Drop)]
+#[derive(Clone, Copy)]
 pub enum Kind {
     Rpc(Edition),
     SubOpts,
@@ -38,14 +40,14 @@ pub enum Kind {
 }
 
 // How a number is written: as it is, or as 1 wherever it is not 0.
-#[derive(Drop)]
+#[derive(Clone, Copy)]
 pub enum Figure {
     Exact,
     Flag,
 }
 
 // How a submessage is written: anew, in its canonical bytes; whole, as it stands; or merged, all of its kind as one.
-#[derive(Drop)]
+#[derive(Clone, Copy)]
 pub enum Form {
     Anew,
     Whole,
@@ -54,7 +56,7 @@ pub enum Form {
 
 // What a field of a message is. A singular field of bytes or text has a slot of its message's record, 1 to 5; the singular number, which a
 // message has at most one of, has its own. Unsigned bytes are read like others, and are no part of the bytes that are signed.
-#[derive(Drop)]
+#[derive(Clone, Copy)]
 pub enum Role {
     Skip,
     Number(Figure),
@@ -67,7 +69,7 @@ pub enum Role {
 }
 
 // How the entries of a repeated field are written: not at all, each as it stands, each anew, or all as one.
-#[derive(Drop)]
+#[derive(Clone, Copy)]
 pub enum Held {
     Nothing,
     Whole,
@@ -76,13 +78,13 @@ pub enum Held {
 }
 
 // An optional field: where its bytes stand, or that it is absent.
-#[derive(Drop)]
+#[derive(Clone, Copy)]
 pub enum Place {
     Absent,
     Present { start: usize, end: usize },
 }
 
-#[derive(Drop)]
+#[derive(Clone, Copy)]
 pub enum Number {
     Absent,
     Present(u64),
@@ -91,7 +93,7 @@ pub enum Number {
 // The singular fields of a message, with places counted from its own start. SubOpts: number is subscribe, first is topic_id. RawMessage: first to fifth are from, data, seqno,
 // signature, key. ControlIHave and ControlGraft: first is topic_id. ControlPrune: first is topic_id, number is backoff. PeerInfo: first and
 // second are peer_id and signed_peer_record.
-#[derive(Drop)]
+#[derive(Clone, Copy)]
 pub struct Slots {
     pub number: Number,
     pub first: Place,
@@ -101,14 +103,14 @@ pub struct Slots {
     pub fifth: Place,
 }
 
-#[derive(Drop)]
+#[derive(Clone, Copy)]
 pub enum Counted {
     Records(usize),
     Refused(WireError),
 }
 
 // The same of a whole body, with the refusal's place.
-#[derive(Drop)]
+#[derive(Clone, Copy)]
 pub enum Tested {
     Records(usize),
     Refused(Refusal),

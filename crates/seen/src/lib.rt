@@ -1,5 +1,7 @@
 // Recently seen message ids, from seen.rs: ids in a lent store, a row of 129 bytes each; their lengths and expiries by value. The rows are a ring,
 // so that an id that leaves moves no other, and a freed row is used again.
+#![tactic(auto)]
+
 pub mod told;
 
 ghost use Rattle.std.specs.Prelude.{◌≡◌, ◌+◌, ◌*◌, ◌≤◌, ◌<◌, length};
@@ -17,7 +19,7 @@ pub const ID_SIZE: usize = 129;
 
 pub const MAX_IDS: usize = 256;
 
-#[derive(Drop)]
+#[derive(Clone, Copy)]
 pub struct SeenCache {
     pub start: usize,
     pub count: usize,
@@ -26,14 +28,14 @@ pub struct SeenCache {
 }
 
 // Whether the lent state is one: 41 for a store that is no whole rows or has more than 256, 42 for a cache that is not well formed.
-#[derive(Drop)]
+#[derive(Clone, Copy)]
 pub enum Lent {
     Fine,
     BadStore,
     Malformed,
 }
 
-#[derive(Drop)]
+#[derive(Clone, Copy)]
 pub enum Insert {
     Fresh,
     Held,
@@ -43,13 +45,13 @@ pub enum Insert {
     TooLong(usize),
 }
 
-#[derive(Drop)]
+#[derive(Clone, Copy)]
 pub struct Inserted {
     pub answer: Insert,
     pub cache: SeenCache,
 }
 
-#[derive(Drop)]
+#[derive(Clone, Copy)]
 pub enum Contains {
     Yes,
     No,
@@ -59,20 +61,20 @@ pub enum Contains {
 }
 
 // How many are left.
-#[derive(Drop)]
+#[derive(Clone, Copy)]
 pub enum Gc {
     Left(usize),
     BadStore,
     Malformed,
 }
 
-#[derive(Drop)]
+#[derive(Clone, Copy)]
 pub struct Cleaned {
     pub answer: Gc,
     pub cache: SeenCache,
 }
 
-#[derive(Drop)]
+#[derive(Clone, Copy)]
 pub enum NextExpiry {
     None,
     At(u64),
@@ -133,7 +135,7 @@ fn write_id(store: &mut [u8], at: usize, id: &[u8])
     requires { at + length id.now ≤ length store.old }
     ensures { store.new ≡ sets store.old at id.now }
 {
-    bytes::copy(id, &mut store[at..]);
+    store[at..at + id.len()].copy_from_slice(id);
 }
 
 impl SeenCache {

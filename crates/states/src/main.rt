@@ -6,6 +6,8 @@
 // topic), 21 as 1, and then flags u16 (bit 0: unsigned messages are allowed; bit 1: groups are passed over), 22 and 25 an edition u8 (0 is 1.1, 1 is
 // 1.2), and then as 2 and 5, 26 serve (edition u8, room u32, length of the lent body u32, lent body, body). The stores are lent as long as the
 // settings say until a record of kind 7.
+#![tactic(auto)]
+
 mod calls;
 mod hurt;
 mod state;

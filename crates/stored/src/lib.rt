@@ -1,5 +1,7 @@
 // A node as bytes that a host keeps between two calls: NODE_SIZE of them, each number with its lowest byte first. Every such bytes are some node;
 // whether it is well formed each call tests.
+#![tactic(auto)]
+
 ghost use Rattle.std.specs.Prelude.{◌≡◌, ◌+◌, ◌*◌, ◌≤◌, length, take, drop};
 ghost use Rattle.std.proofs.lemmas.List.Edits.{sets};
 ghost use Rattle.basis.specs.Little.{little};

@@ -1,6 +1,8 @@
 // Records in and lines out, for the programs that run the libraries on bytes: the header of a record, and words, decimal
 // numbers and hex put into a line. A writer takes the line, a place in it and what to put there, and hands back the place after that. Where the
 // line has not the room, a public writer writes nothing and hands back the place as it was.
+#![tactic(auto)]
+
 ghost use Rattle.std.specs.Prelude.{◌≡◌, ◌+◌, ◌*◌, ◌≤◌, ◌∷◌, [], length, take};
 ghost use Rattle.io.specs.Digits.{hex_digit_ascii as glyphOf};
 ghost use Rattle.basis.specs.Writing.{end_in, set_in};
@@ -10,7 +12,7 @@ ghost use Rattle.text.specs.Line.{Puts, decimal, number, numbers, refused, hex};
 use basis::{has_room, little_at};
 
 // What the start of a record says.
-#[derive(Drop)]
+#[derive(Clone, Copy)]
 pub enum Header {
     End,
     Bad,

@@ -1,5 +1,7 @@
 // Loops over calls of the two caches, for the benchmark in bench/: a program in C times whole loops. What a loop answers depends on every call, so that
 // none can be left out. Only that they are safe and end is proved.
+#![tactic(auto)]
+
 use basis::Edition;
 use mcache::{Gossip, MessageCache, Put, PutDone};
 use seen::{Contains, Insert, Inserted, SeenCache};

@@ -1,3 +1,5 @@
+#![tactic(auto)]
+
 // Plays a trace: see the crate play.
 fn main() {
     play::play();

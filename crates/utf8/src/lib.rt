@@ -1,9 +1,11 @@
 // UTF-8, as RFC 3629 has it.
+#![tactic(auto)]
+
 ghost use Rattle.std.specs.Prelude.{◌+◌, ◌≤◌, ◌<◌, ◌≡◌, true, length, drop};
 ghost use Rattle.utf8.specs.Utf8.{lead_of, step_of, run, is_utf8};
 
 // What may come next: `tails` more bytes of this character, the first of them from low to high; or nothing, since the bytes are no UTF-8.
-#[derive(Drop)]
+#[derive(Clone, Copy)]
 pub enum State {
     Want { tails: usize, low: u8, high: u8 },
     Bad,

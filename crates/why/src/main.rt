@@ -3,6 +3,8 @@
 // 3 heartbeat (now u64), 4 advertise (windows u16, topic), 5 ask (body), 6 serve (body), 12 why (windows u16, length of the id u16, id, topic),
 // 13 gateway (a node's bytes, its seen store, its cache store, as the C interface has them), which takes the place of node and stores. The stores
 // are lent as long as the settings say, or the node of a gateway.
+#![tactic(auto)]
+
 mod gateway;
 
 ghost use Rattle.std.specs.Prelude.{◌≡◌, ◌≤◌, length};
