@@ -1,0 +1,7 @@
+-- `caches::say::print_line` is safe: the part that is printed is there.
+use Rattle.lines.specs.Laws.{prefix}
+use borrow.Author.Rules.{rules}
+use Rattle.caches.proofs.say.print_line.Goals as goal
+
+pub slice_bounds-write_all-end : goal.slice_bounds-write_all-end
+slice_bounds-write_all-end c = prefix _ _ (search rules)

@@ -1,0 +1,7 @@
+-- `caches::seen_part::seen_turn` is safe: the part of the store that is lent is there.
+use Rattle.lines.specs.Laws.{prefix}
+use borrow.Author.Rules.{rules}
+use Rattle.caches.proofs.seen_part.seen_turn.Goals as goal
+
+pub slice_bounds-call-end-then-part : goal.slice_bounds-call-end-then-part
+slice_bounds-call-end-then-part c = prefix _ _ (search rules)

@@ -1,0 +1,39 @@
+-- `compose::message_row` meets its contract: so many messages were passed before row i.
+use Prim.Native.Nat.{◌-◌}
+use mathlib.Core.Logic.{⊎_elim}
+use native.Mathlib.Omega.{arith}
+use borrow.Author.Rules.{rules}
+use Rattle.compose.proofs.Tests.{passed_none, passed-all, passed_skip, passed-one, passed-found}
+use Rattle.compose.proofs.message_row.Goals as goal
+
+pub loop-i-init : goal.loop-i-init
+loop-i-init c = (search rules, search rules, passed_none _ _)
+
+pub returns-then-count-index : goal.returns-then-count-index
+returns-then-count-index c =
+    let a = c.args in
+    passed-found a.records.now a.bytes.now c.loop-i.count c.loop-i.i a.index c.loop-i.invariant.2
+    c.loop-i-test.true c.is_code.ensures c.if-is_code.true c.if-count-index.true
+
+pub loop-i-preserved : goal.loop-i-preserved
+loop-i-preserved c =
+    let a = c.args in
+    let l = c.loop-i in
+    ⊎_elim
+    (λ w. let n = w.1.left in let v = l.invariant.1 in (
+      omega arith,
+      omega arith,
+      passed-one a.records.now a.bytes.now l.count l.i a.index l.invariant.2 c.loop-i-test.true c.is_code.ensures w.0.taken w.2,
+    ))
+    (λ w. (
+      omega arith,
+      omega arith,
+      passed_skip a.records.now a.bytes.now l.count l.i a.index l.invariant.2 c.loop-i-test.true c.is_code.ensures w.0.left w.1,
+    ))
+    c.if-is_code.branch
+
+pub returns : goal.returns
+returns c =
+    let a = c.args in
+    passed-all a.records.now a.bytes.now c.loop-i.count c.loop-i.i a.index c.loop-i.invariant.2
+    c.loop-i-test.false c.loop-i.invariant.1

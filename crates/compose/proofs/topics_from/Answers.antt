@@ -1,0 +1,66 @@
+-- `compose::topics_from` meets its contract: the topics that were counted, and those from row i on, are those from the first row on.
+use Prim.Native.Nat.{◌+◌, ◌-◌}
+use mathlib.Core.Logic.{⊎_elim}
+use native.Mathlib.Omega.{arith}
+use lib.ListN.{length}
+use borrow.Author.Rules.{rules}
+use Rattle.meaning.specs.ReadBack.{raw_of}
+use Rattle.compose.specs.Lent.{rows_from}
+use Rattle.compose.specs.Said.{topics_from}
+use Rattle.compose.proofs.Parts.{row_inside-is}
+use Rattle.compose.proofs.Tests.{inside-row, long-now, long-later, long-before, counted-all, counted-done, counted_same, counted-more}
+use Rattle.compose.proofs.Tests.{topics-end, topics-stop, topics_skip, topics-one, raw-length}
+use Rattle.compose.proofs.topics_from.Goals as goal
+
+pub loop-i-init : goal.loop-i-init
+loop-i-init c = (search rules, counted-all _)
+
+pub returns-then-is_code : goal.returns-then-is_code
+returns-then-is_code c =
+    let a = c.args in
+    counted-done _ _ _ _ c.loop-i.invariant.1
+    (topics-stop a.records.now a.bytes.now c.loop-i.i c.loop-i-test.true c.is_code.ensures c.if-is_code.true)
+
+pub overflow_sub-len : goal.overflow_sub-len
+overflow_sub-len c =
+    (row_inside-is (length c.args.bytes.now) _
+    (inside-row c.args.records.now c.args.bytes.now c.loop-i.i _ c.requires c.loop-i-test.true c.row_at-r.ensures)).0
+
+pub loop-i-preserved : goal.loop-i-preserved
+loop-i-preserved c =
+    let t = c.args.records.now in
+    let b = c.args.bytes.now in
+    let l = c.loop-i in
+    let h = c.loop-i-test.true in
+    let e = c.is_code.ensures in
+    let f = c.is_code-in-loop-i.ensures in
+    let g = l.invariant.1 in
+    let rest = topics_from b (rows_from t (l.i + 1)) in
+    ⊎_elim
+    (λ w. (
+      omega arith,
+      counted-more _ _ _ _ g (raw_of b w.1.result) rest _ _
+          (topics-one t b l.i h e c.if-is_code.false f w.0.taken w.1.result w.1.ensures) w.5
+          (long-now _ rest _ (raw-length t b l.i h w.1.result c.requires w.1.ensures) _ _ w.3.taken w.4.taken w.6),
+    ))
+    (⊎_elim
+    (λ w. (
+      omega arith,
+      counted-more _ _ _ _ g (raw_of b w.1.result) rest _ _
+          (topics-one t b l.i h e c.if-is_code.false f w.0.taken w.1.result w.1.ensures) w.5
+          (long-later _ rest _ (raw-length t b l.i h w.1.result c.requires w.1.ensures) _ _ w.3.taken w.4.left w.6),
+    ))
+    (⊎_elim
+    (λ w. (
+      omega arith,
+      counted-more _ _ _ _ g (raw_of b w.1.result) rest _ _
+          (topics-one t b l.i h e c.if-is_code.false f w.0.taken w.1.result w.1.ensures) w.4
+          (long-before _ rest _ (raw-length t b l.i h w.1.result c.requires w.1.ensures) _ _ w.3.left w.5),
+    ))
+    (λ w. (omega arith, counted_same _ _ _ _ g rest _ _ (topics_skip t b l.i h e c.if-is_code.false f w.0.left) w.1 w.2))))
+    c.if-is_code-2.branch
+
+pub returns : goal.returns
+returns c =
+    let a = c.args in
+    counted-done _ _ _ _ c.loop-i.invariant.1 (topics-end a.records.now a.bytes.now c.loop-i.i c.loop-i-test.false)

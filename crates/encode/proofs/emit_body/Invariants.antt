@@ -1,0 +1,17 @@
+-- `encode::emit_body` meets its contract. The invariant: the rows that are left, written at the end of what was written, make all.
+-- the field n of a body
+use Prim.Native.Nat.{◌+◌, ◌-◌, ◌≤◌}
+use mathlib.Core.Path.{◌≡◌}
+use lib.ListN.{length}
+use Rattle.basis.specs.Dialect.{spoken}
+use Rattle.canon.specs.Canon.{in_order, canon_body}
+use Rattle.encode.specs.Puts.{Going}
+use Rattle.basis.specs.declared.Mode.TheVariants.{Groups}
+use Rattle.encode.proofs.emit_body.Given as goal
+
+abbrev pub invariant-loop-n : goal.invariant-loop-n
+invariant-loop-n l =
+    (1 ≤ l.n) × (l.n ≤ l.last + 1) × Going l.initial.out 0 (canon_body (spoken Groups l.edition) l.body) l.out l.end (in_order (top l.edition l.body) l.n (l.last + 1 - l.n)) × (length l.out ≡ length l.initial.out)
+
+abbrev pub decreases-loop-n : goal.decreases-loop-n
+decreases-loop-n l = l.last + 1 - l.n

@@ -1,0 +1,16 @@
+-- `inspect::senders::put_key` meets its contract: the case says what is put.
+use native.Mathlib.Omega.{arith}
+use Rattle.text.specs.Laws.{puts_then, puts_as}
+use Rattle.lines.specs.Laws.{wrote_puts}
+use Rattle.inspect.proofs.Answering.{key-there, key-refused}
+use Rattle.inspect.proofs.senders.put_key.Goals as goal
+
+pub returns-in-Key : goal.returns-in-Key
+returns-in-Key c =
+    puts_as (key-there _ _ _ _ _ c.in-Key.is c.code_of.ensures) (omega arith)
+    (puts_then (wrote_puts (omega arith) c.put_value-i.ensures) c.put_rest.ensures)
+
+pub returns-in-Refused : goal.returns-in-Refused
+returns-in-Refused c =
+    puts_as (key-refused _ _ _ _ c.in-Refused.is c.told_key.ensures) (omega arith)
+    (wrote_puts (omega arith) c.put_refusal.ensures)

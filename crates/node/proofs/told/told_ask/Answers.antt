@@ -1,0 +1,13 @@
+-- `node::told::told_ask` meets its contract: in each arm the answer is the one that was matched.
+use mathlib.Core.Path.{sym, ap, ◌∙◌}
+use Rattle.node.specs.Told.{ask_told}
+use Rattle.node.proofs.told.told_ask.Goals as goal
+
+pub returns-in-Bytes : goal.returns-in-Bytes
+returns-in-Bytes c = c.one.ensures ∙ ap ask_told (sym c.in-Bytes.is)
+
+pub returns-in-Refused : goal.returns-in-Refused
+returns-in-Refused c = c.told_refusal.ensures ∙ ap ask_told (sym c.in-Refused.is)
+
+pub returns-in-Room : goal.returns-in-Room
+returns-in-Room c = c.one-in-Room.ensures ∙ ap ask_told (sym c.in-Room.is)

@@ -1,0 +1,10 @@
+-- `node::told::told_start` meets its contract: in each arm the answer is the one that was matched.
+use mathlib.Core.Path.{sym, ap, ◌∙◌}
+use Rattle.node.specs.Told.{start_told}
+use Rattle.node.proofs.told.told_start.Goals as goal
+
+pub returns-in-Started : goal.returns-in-Started
+returns-in-Started c = c.none.ensures ∙ ap start_told (sym c.in-Started.is)
+
+pub returns-in-BadSetting : goal.returns-in-BadSetting
+returns-in-BadSetting c = c.none-in-BadSetting.ensures ∙ ap start_told (sym c.in-BadSetting.is)

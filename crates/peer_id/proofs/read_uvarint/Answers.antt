@@ -1,0 +1,60 @@
+-- `peer_id::read_uvarint` meets its contract: the value so far, and what the bytes from k on give above it, make what all of them give.
+use Prim.Native.Nat.{◌+◌, ◌-◌}
+use mathlib.Core.Path.{refl, sym, ◌∙◌}
+use native.Mathlib.Omega.{arith}
+use lib.ListN.{drop, get_or}
+use Rattle.peer_id.specs.Uvarint.{read_from}
+use Rattle.peer_id.proofs.Shift.{start, shift-below, turn, ended, Fit, last_fits, Grows, more-fits}
+use Rattle.peer_id.proofs.read_uvarint.Goals as goal
+
+-- a last byte fits, and a further one leaves room
+
+fit : (c : goal.In-Last) → Fit c.loop-k.value c.loop-k.weight (get_or c.args.input.now c.loop-k.k 0)
+fit c = let l = c.loop-k in last_fits l.k l.value l.weight _ l.invariant.0 l.invariant.1 l.invariant.2 (sym c.in-Last.is ∙ c.group_says-g.ensures)
+
+grows : (c : goal.In-More) → Grows c.loop-k.k c.loop-k.value c.loop-k.weight (get_or c.args.input.now c.loop-k.k 0)
+grows c = let l = c.loop-k in more-fits l.k l.value l.weight _ l.invariant.0 l.invariant.1 l.invariant.2 (sym c.in-More.is ∙ c.group_says-g.ensures)
+
+pub loop-k-init : goal.loop-k-init
+loop-k-init c = (omega arith, refl, omega arith, start _)
+
+pub returns-in-Refused : goal.returns-in-Refused
+returns-in-Refused c =
+    let l = c.loop-k in
+    sym (l.invariant.3 ∙ turn _ l.k l.value l.weight _ c.loop-k-test.true (sym c.in-Refused.is ∙ c.group_says-g.ensures))
+
+pub overflow_cast-result : goal.overflow_cast-result
+overflow_cast-result c = omega (arith, c.shared_slice_known-in-loop-k-1.given c.loop-k.k)
+
+pub overflow_mul-result : goal.overflow_mul-result
+overflow_mul-result c = record { fits = (fit c).product }
+
+pub overflow_add-result : goal.overflow_add-result
+overflow_add-result c = record { fits = (fit c).sum }
+
+pub returns-in-Last : goal.returns-in-Last
+returns-in-Last c =
+    let l = c.loop-k in
+    sym (l.invariant.3 ∙ turn _ l.k l.value l.weight _ c.loop-k-test.true (sym c.in-Last.is ∙ c.group_says-g.ensures))
+
+pub overflow_mul-value : goal.overflow_mul-value
+overflow_mul-value c = record { fits = (grows c).ranges }
+
+pub overflow_add-value : goal.overflow_add-value
+overflow_add-value c = omega (arith, grows c)
+
+pub overflow_mul-weight : goal.overflow_mul-weight
+overflow_mul-weight c = omega (arith, grows c)
+
+pub loop-k-preserved : goal.loop-k-preserved
+loop-k-preserved c =
+    let l = c.loop-k in (
+      omega (arith, grows c),
+      (grows c).power,
+      (grows c).sum,
+      l.invariant.3 ∙ turn _ l.k l.value l.weight _ c.loop-k-test.true (sym c.in-More.is ∙ c.group_says-g.ensures)
+          ∙ shift-below l.value l.weight l.k (get_or c.args.input.now l.k 0) (read_from (l.k + 1) (drop (l.k + 1) c.args.input.now)),
+    )
+
+pub returns : goal.returns
+returns c = let l = c.loop-k in sym (l.invariant.3 ∙ ended _ l.k l.value l.weight c.loop-k-test.false)

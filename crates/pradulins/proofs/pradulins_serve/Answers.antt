@@ -1,0 +1,13 @@
+-- `pradulins::pradulins_serve` meets its contract: what the stored node answers is told.
+use Rattle.node.specs.Told.{serve_told}
+use Rattle.pradulins.proofs.Told.{told_as}
+use Rattle.pradulins.proofs.pradulins_serve.Goals as goal
+
+pub returns : goal.returns
+returns c =
+    let node = c.load-n.ensures in
+    let edition = c.edition_of-spoken.ensures in
+    let did = c.serve-r.ensures in
+    let t = told_as serve_told c.args.values.now (rw (node, edition) at did.answer)
+    c.told_serve.ensures c.tell.ensures in
+    record { number = t.0; values = t.1; buffer = rw (node, edition) at did.buffer }

@@ -1,0 +1,16 @@
+-- `text::put_number` meets its contract: where it has the room, it is spelt there.
+use mathlib.Core.Path.{sym, ◌∙◌}
+use borrow.Author.Tests.{leb-true}
+use Rattle.text.proofs.Room.{fits, short}
+use Rattle.text.proofs.put_number.Goals as goal
+
+pub spell_number-requires : goal.spell_number-requires
+spell_number-requires c = leb-true _ _ (sym c.has_room.ensures ∙ c.if-has_room.true)
+
+pub returns-then-has_room : goal.returns-then-has_room
+returns-then-has_room c =
+    let h = fits (sym c.has_room.ensures ∙ c.if-has_room.true) c.spell_number.ensures in record { value = h.0; out_after = h.1 }
+
+pub returns : goal.returns
+returns c =
+    let h = short _ _ _ _ (sym c.has_room.ensures ∙ c.if-has_room.false) in record { value = h.0; out_after = h.1 }
