@@ -1,4 +1,4 @@
-// The library as C and Rust programs link it. Each call answers a number, 0 or the refusal's in the table of refusals; `values`, where it is lent, gets what stands
+// The library as C and Rust programs link it, by pradulins_c. Each call answers a number, 0 or the refusal's in the table of refusals; `values`, where it is lent, gets what stands
 // beside it, at most four numbers (settings are five), and then the place of a refusal. The node lives in NODE_SIZE bytes that the host lends, its two stores in slices. A
 // refused call changes no buffer and no node.
 #![tactic(auto)]
@@ -88,8 +88,7 @@ fn tell(t: Told, values: &mut [u64; 8]) -> u32
 // ---- the node
 
 // A node that holds nothing, in the lent bytes. Of the flags bit 0 allows unsigned messages, and bit 1 is the mode: the node passes over groups.
-#[unsafe(no_mangle)]
-pub extern "C" fn pradulins_start(
+pub fn pradulins_start(
     node: &mut [u8; NODE_SIZE],
     ttl: u64,
     max_seen: usize,
@@ -112,8 +111,7 @@ pub extern "C" fn pradulins_start(
 
 // Admits the message at an index of a body, with the host's word on its signature, at a reading of the clock. The body is read in the edition of its
 // stream and in the node's mode; here and below only the lowest bit of an edition counts.
-#[unsafe(no_mangle)]
-pub extern "C" fn pradulins_admit(
+pub fn pradulins_admit(
     node: &mut [u8; NODE_SIZE],
     seen_store: &mut [u8],
     cache_store: &mut [u8],
@@ -138,8 +136,7 @@ pub extern "C" fn pradulins_admit(
 }
 
 // Opens a window at a reading of the clock.
-#[unsafe(no_mangle)]
-pub extern "C" fn pradulins_heartbeat(
+pub fn pradulins_heartbeat(
     node: &mut [u8; NODE_SIZE],
     seen_store: &[u8],
     cache_store: &[u8],
@@ -158,8 +155,7 @@ pub extern "C" fn pradulins_heartbeat(
 }
 
 // Writes what the node tells of a topic, from so many of the newest windows.
-#[unsafe(no_mangle)]
-pub extern "C" fn pradulins_advertise(
+pub fn pradulins_advertise(
     node: &[u8; NODE_SIZE],
     seen_store: &[u8],
     cache_store: &[u8],
@@ -180,8 +176,7 @@ pub extern "C" fn pradulins_advertise(
 
 // Whether an id stands in what the node tells of a topic from so many of the newest windows, and why not: the first value is 0 where it does, 1 where
 // no message with it is cached, 2 where that one does not carry the topic, 3 where its window is older, whose age is then the second.
-#[unsafe(no_mangle)]
-pub extern "C" fn pradulins_explain(
+pub fn pradulins_explain(
     node: &[u8; NODE_SIZE],
     seen_store: &[u8],
     cache_store: &[u8],
@@ -200,8 +195,7 @@ pub extern "C" fn pradulins_explain(
 }
 
 // Writes a request for what the IHAVEs of a body name and the node has not seen.
-#[unsafe(no_mangle)]
-pub extern "C" fn pradulins_ask(
+pub fn pradulins_ask(
     node: &[u8; NODE_SIZE],
     seen_store: &[u8],
     cache_store: &[u8],
@@ -221,8 +215,7 @@ pub extern "C" fn pradulins_ask(
 }
 
 // Writes the cached messages that the IWANTs of a body name and the IDONTWANTs of a second one do not, as many as there is room for.
-#[unsafe(no_mangle)]
-pub extern "C" fn pradulins_serve(
+pub fn pradulins_serve(
     node: &[u8; NODE_SIZE],
     seen_store: &[u8],
     cache_store: &[u8],
@@ -281,8 +274,7 @@ fn told_state(n: Node, seen_store: &[u8], cache_store: &[u8]) -> Told
 }
 
 // The settings that a node was started with; the flags are the fifth value.
-#[unsafe(no_mangle)]
-pub extern "C" fn pradulins_settings(node: &[u8; NODE_SIZE], values: &mut [u64; 8]) -> u32
+pub fn pradulins_settings(node: &[u8; NODE_SIZE], values: &mut [u64; 8]) -> u32
     ensures { Settles node.now values.old result values.new }
 {
     let n = load(node);
@@ -295,8 +287,7 @@ pub extern "C" fn pradulins_settings(node: &[u8; NODE_SIZE], values: &mut [u64; 
 }
 
 // Its clock, and how many ids and messages it keeps.
-#[unsafe(no_mangle)]
-pub extern "C" fn pradulins_state(
+pub fn pradulins_state(
     node: &[u8; NODE_SIZE],
     seen_store: &[u8],
     cache_store: &[u8],
@@ -313,8 +304,7 @@ pub extern "C" fn pradulins_state(
 
 // Writes a body anew in canonical bytes. Two bits of a dialect count, here and below: bit 0 is the edition, bit 1 the mode, in which groups are passed
 // over.
-#[unsafe(no_mangle)]
-pub extern "C" fn pradulins_encode(
+pub fn pradulins_encode(
     dialect: u32,
     body: &[u8],
     out: &mut [u8],
@@ -329,8 +319,7 @@ pub extern "C" fn pradulins_encode(
 }
 
 // Writes the bytes to sign of the message at an index.
-#[unsafe(no_mangle)]
-pub extern "C" fn pradulins_sign_bytes(
+pub fn pradulins_sign_bytes(
     dialect: u32,
     body: &[u8],
     index: usize,
@@ -346,8 +335,7 @@ pub extern "C" fn pradulins_sign_bytes(
 }
 
 // Writes the id of the message at an index.
-#[unsafe(no_mangle)]
-pub extern "C" fn pradulins_message_id(
+pub fn pradulins_message_id(
     dialect: u32,
     body: &[u8],
     index: usize,
@@ -363,8 +351,7 @@ pub extern "C" fn pradulins_message_id(
 }
 
 // Decodes a body into a table of records, 20 numbers each.
-#[unsafe(no_mangle)]
-pub extern "C" fn pradulins_decode(
+pub fn pradulins_decode(
     dialect: u32,
     body: &[u8],
     table: &mut [u64],
@@ -379,8 +366,7 @@ pub extern "C" fn pradulins_decode(
 }
 
 // The top-level field at a place of a body; of the dialect only the mode matters.
-#[unsafe(no_mangle)]
-pub extern "C" fn pradulins_walk(dialect: u32, body: &[u8], at: usize, values: &mut [u64; 8]) -> u32
+pub fn pradulins_walk(dialect: u32, body: &[u8], at: usize, values: &mut [u64; 8]) -> u32
     ensures { Walks dialect body.now at values.old result values.new }
 {
     let spoken = dialect_of(dialect as u64);
@@ -393,8 +379,7 @@ pub extern "C" fn pradulins_walk(dialect: u32, body: &[u8], at: usize, values: &
 // ---- speaking first
 
 // Writes the RPC that rows of a table of records say, over lent bytes, under flags.
-#[unsafe(no_mangle)]
-pub extern "C" fn pradulins_write_rpc(
+pub fn pradulins_write_rpc(
     records: &[u64],
     bytes: &[u8],
     flags: u32,
@@ -409,8 +394,7 @@ pub extern "C" fn pradulins_write_rpc(
 }
 
 // Writes the bytes to sign of the message at an index of such rows.
-#[unsafe(no_mangle)]
-pub extern "C" fn pradulins_sign_fields(
+pub fn pradulins_sign_fields(
     records: &[u64],
     bytes: &[u8],
     index: usize,
@@ -427,16 +411,14 @@ pub extern "C" fn pradulins_sign_fields(
 // ---- the archive
 
 // The version that the archive was made of.
-#[unsafe(no_mangle)]
-pub extern "C" fn pradulins_version() -> u32
+pub fn pradulins_version() -> u32
     ensures { result ≡ version_number }
 {
     VERSION
 }
 
 // The format of a node's bytes.
-#[unsafe(no_mangle)]
-pub extern "C" fn pradulins_format() -> u32
+pub fn pradulins_format() -> u32
     ensures { result ≡ format_number }
 {
     FORMAT

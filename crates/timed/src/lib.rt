@@ -78,15 +78,13 @@ fn inserts(cache: SeenCache, store: &mut [u8], ids: &[u8], max: usize, times: u6
 }
 
 // Inserts; how many ids are held then.
-#[unsafe(no_mangle)]
-pub extern "C" fn timed_seen_insert(store: &mut [u8], ids: &[u8], max: usize, times: u64) -> u64 {
+pub fn timed_seen_insert(store: &mut [u8], ids: &[u8], max: usize, times: u64) -> u64 {
     let c = inserts(SeenCache::new(), store, ids, max, times);
     c.count as u64
 }
 
 // Fills a cache with the first `max` ids, and asks for others in turn; how many were held.
-#[unsafe(no_mangle)]
-pub extern "C" fn timed_seen_contains(
+pub fn timed_seen_contains(
     store: &mut [u8],
     ids: &[u8],
     asked: &[u8],
@@ -117,8 +115,7 @@ fn seen_fine(c: SeenCache, store: &[u8]) -> bool {
 }
 
 // The same, and only the test of the lent state, so many times.
-#[unsafe(no_mangle)]
-pub extern "C" fn timed_seen_lent(store: &mut [u8], ids: &[u8], max: usize, times: u64) -> u64 {
+pub fn timed_seen_lent(store: &mut [u8], ids: &[u8], max: usize, times: u64) -> u64 {
     let c = inserts(SeenCache::new(), store, ids, max, max as u64);
     let mut fine: u64 = 0;
     let mut i: u64 = 0;
@@ -178,8 +175,7 @@ fn filled(store: &mut [u8], bodies: &[u8], size: usize, max: usize, times: u64) 
 }
 
 // Puts; how many messages are held then.
-#[unsafe(no_mangle)]
-pub extern "C" fn timed_cache_put(
+pub fn timed_cache_put(
     store: &mut [u8],
     bodies: &[u8],
     size: usize,
@@ -202,8 +198,7 @@ fn gossip_count(c: MessageCache, store: &[u8], topic: &[u8]) -> u64 {
 }
 
 // Fills a cache with the first `max` bodies, and asks for the ids of a topic; the sum of their numbers.
-#[unsafe(no_mangle)]
-pub extern "C" fn timed_cache_gossip(
+pub fn timed_cache_gossip(
     store: &mut [u8],
     bodies: &[u8],
     size: usize,
@@ -235,8 +230,7 @@ fn got_at(c: MessageCache, store: &[u8], ids: &[u8], at: usize, size: usize) -> 
 }
 
 // The same, and looks ids of this size up in turn; the sum of the lengths of what was found.
-#[unsafe(no_mangle)]
-pub extern "C" fn timed_cache_get(
+pub fn timed_cache_get(
     store: &mut [u8],
     bodies: &[u8],
     size: usize,
@@ -267,8 +261,7 @@ fn cache_fine(c: MessageCache, store: &[u8]) -> bool {
 }
 
 // The same, and only the test of the lent state, so many times.
-#[unsafe(no_mangle)]
-pub extern "C" fn timed_cache_lent(
+pub fn timed_cache_lent(
     store: &mut [u8],
     bodies: &[u8],
     size: usize,
