@@ -24,13 +24,14 @@ HOST = scripts.loaded("host")
 X86 = HOST.x86
 
 TREE = {
-    "crates.txt": "# NAME: what it depends on\n\n# wire\nbasis:\nfield: basis\n\n# boundary\nlibrary: field io\nother: basis\n",
+    "crates.txt": "# NAME: what it depends on\n\n# wire\nbasis:\nfield: basis\n\n# boundary\nlibrary: field io\nlibrary_c staticlib: library\nother: basis\n",
     "crates/basis/src/lib.rt": "a",
     "crates/field/src/lib.rt": "b",
     "crates/field/specs/Field.antt": "c",
     "crates/field/proofs/deep/Field.antt": "d",
     "crates/field/must-fail/one.edit": "e",
     "crates/library/src/lib.rt": "f",
+    "crates/library_c/src/lib.rt": "h",
     "crates/other/src/lib.rt": "g",
 }
 
@@ -38,11 +39,11 @@ TREE = {
 RT = """#!/bin/sh
 case $1 in
 version) cat "%(kit)s/version" ;;
-staticlib)
+lib)
     test -e "%(kit)s/broken" && { echo "not proved: $2"; exit 1; }
     echo "$2" >> "%(kit)s/made"
-    mkdir -p target/staticlib && wc -l < "%(kit)s/made" > "target/staticlib/lib$2.a"
-    test -e "%(kit)s/changes" && echo changed >> crates/basis/src/lib.rt
+    mkdir -p out && wc -l < "%(kit)s/made" > "out/lib$2.a"
+    test -e "%(kit)s/changes" && echo changed >> ../basis/src/lib.rt
     test -e "%(kit)s/broken-late" && exit 1
     exit 0 ;;
 esac
@@ -84,6 +85,7 @@ class Tree(unittest.TestCase):
 class Archives(Tree):
     def test_crates_under(self):
         self.assertEqual(X86.crates_under("library"), ["basis", "field", "library"])
+        self.assertEqual(X86.crates_under("library_c"), ["basis", "field", "library", "library_c"])
         self.assertEqual(X86.crates_under("basis"), ["basis"])
         with self.assertRaisesRegex(X86.Failure, "no crate none"):
             X86.crates_under("none")
@@ -115,7 +117,7 @@ class Archives(Tree):
         self.addCleanup(X86.LOG.close)
         with contextlib.redirect_stderr(err):
             path = X86.archive("library")
-        self.assertEqual(err.getvalue(), "warning: a source changed while rt staticlib library ran; the next run makes the archive again\n")
+        self.assertEqual(err.getvalue(), "warning: a source changed while rt lib library_c ran; the next run makes the archive again\n")
         os.utime(path, (2e9, 2e9))
         self.assertIsNone(X86.stands("library"))
         os.remove(hook)
@@ -181,7 +183,7 @@ class Archives(Tree):
     def test_it_is_not_proved(self):
         self.put(os.path.join(self.kit, "broken"), "")
         X86.log_to(os.path.join(self.root, "log"))
-        with self.assertRaisesRegex(X86.Failure, "rt staticlib library ended with 1") as failed:
+        with self.assertRaisesRegex(X86.Failure, "rt lib library_c ended with 1") as failed:
             X86.archive("library")
         X86.LOG.close()
         self.assertEqual(failed.exception.tail, ["not proved: library"])
@@ -373,9 +375,9 @@ class Ends(Tree):
         self.put(os.path.join(self.kit, "broken"), "")
         status, out, err = self.ended()
         self.assertEqual(status, 1)
-        self.assertEqual(out, ["%-26s %-20s %s" % ("archive", "rt staticlib", "proves and makes it, some minutes")])
+        self.assertEqual(out, ["%-26s %-20s %s" % ("archive", "rt lib", "proves and makes it, some minutes")])
         self.assertEqual(err, ["  not proved: pradulins", "host: all of this is in target/host/log",
-                               "host: FAILED: rt staticlib pradulins ended with 1"])
+                               "host: FAILED: rt lib pradulins_c ended with 1"])
 
     def test_usage(self):
         for words in (["none"], ["example", "d"], ["test", "c"], ["--kills", "0"], ["--seed", "x"], ["--archive", "x", "--anew"]):

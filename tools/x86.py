@@ -109,7 +109,8 @@ def install(rust=True):
 # ---- building
 
 def archive(name, folder=None, anew=False):
-    """lib<name>.a in a folder, or else as `rt staticlib` makes it: it is taken where it stands, and made again where it does not, or with `anew`."""
+    """lib<name>.a in a folder, or else as `rt lib` makes it of the crate <name>_c: it is taken where it stands, and made again where it does not, or with
+    `anew`."""
     if folder:
         path = os.path.join(os.path.abspath(folder), "lib%s.a" % name)
     else:
@@ -130,22 +131,25 @@ AGAIN = "again"
 
 
 def make_archive(name):
-    """Runs `rt staticlib`, and leaves a note beside the archive: the digest of what it was made of, and its own. While it runs, and where a source
-    changed meanwhile, the note says that it must be made again."""
-    path = own_archive(name)
+    """Runs `rt lib` in the crate <name>_c, and leaves a note beside the archive: the digest of what it was made of, and its own. While it runs, and where
+    a source changed meanwhile, the note says that it must be made again."""
+    path, crate = own_archive(name), name + "_c"
+    folder = os.path.join(ROOT, "crates", crate)
+    made = os.path.join(folder, "out", "lib%s.a" % crate)
     if not shutil.which("rt"):
         raise Failure("there is no rt to make %s anew" % path if os.path.isfile(path) else "no %s, and no rt to make it" % path)
     before = stamp(name)
     os.makedirs(os.path.dirname(path), exist_ok=True)
     note(path, AGAIN)
-    call(["rt", "staticlib", name], cwd=ROOT)
-    if not os.path.isfile(path):
-        raise Failure("rt staticlib %s made no %s" % (name, path))
+    call(["rt", "lib", crate], cwd=folder)
+    if not os.path.isfile(made):
+        raise Failure("rt lib %s made no %s" % (crate, made))
+    shutil.copyfile(made, path)
     if stamp(name) == before:
         note(path, before, digest_of(path))
     else:
         note(path, AGAIN, digest_of(path))
-        print("warning: a source changed while rt staticlib %s ran; the next run makes the archive again" % name, file=sys.stderr, flush=True)
+        print("warning: a source changed while rt lib %s ran; the next run makes the archive again" % crate, file=sys.stderr, flush=True)
 
 
 def note(path, *words):
@@ -183,7 +187,7 @@ def crates_under(name):
     """The crates of this repository that a crate stands on, and itself. Other names in crates.txt are the kit's."""
     with open(os.path.join(ROOT, "crates.txt")) as f:
         rows = [line.split(":", 1) for line in f if line.strip() and not line.startswith("#")]
-    needs = {row[0].strip(): row[1].split() for row in rows}
+    needs = {row[0].split()[0]: row[1].split() for row in rows}
     if name not in needs:
         raise Failure("crates.txt has no crate %s" % name)
     found, todo = set(), [name]
@@ -197,7 +201,7 @@ def crates_under(name):
 
 def folders_of(name):
     """The folders of the crates that an archive stands on, each with the names of its files."""
-    for crate in crates_under(name):
+    for crate in crates_under(name + "_c"):
         for part in ("src", "specs", "proofs"):
             for folder, _, names in os.walk(os.path.join(ROOT, "crates", crate, part)):
                 yield folder, names
