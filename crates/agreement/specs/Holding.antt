@@ -438,7 +438,7 @@ past_next past (heartbeat at) = suc past
 past_next past (advertise topic windows out) = past
 past_next past (ask ed body out) = past
 past_next past (serve ed body second out) = past
-past_next past (explain id topic windows) = past
+past_next past (explain _ topic windows) = past
 
 unfoldable pub past_all : ℕ → List Call → ℕ
 past_all past [] = past
