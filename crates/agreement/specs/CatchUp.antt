@@ -102,8 +102,8 @@ rounds-done {set} {x} {y} ms alike {firstA} {pastA} {leftA} {gotA} {gotB} p fair
     ap (λ (l : List ℕ). l ++ rs) (readings-append c d) ∙ append_assoc (readings c) (readings d) rs in
     let one = round_done ms alike p fair (at 0) (readings d ++ rs)
     (subst (λ (l : List ℕ). Holding set x firstA pastA l leftA gotA a) e ha) hb in
-    let rest = rounds-done ms alike (onward p) (fair-onward fair) r (λ k. at (suc k)) rs one.asker-holds
-    one.teller-holds in
+    let rest = rounds-done ms alike {gotA = got_all x.flags gotA c} (onward p) (fair-onward fair) r (λ k. at (suc k)) rs
+    one.asker-holds one.teller-holds in
     let f = one.fewer in
     let g = rest.missing-left in
     record {

@@ -438,7 +438,7 @@ past_next past (heartbeat at) = suc past
 past_next past (advertise topic windows out) = past
 past_next past (ask ed body out) = past
 past_next past (serve ed body second out) = past
-past_next past (explain id topic windows) = past
+past_next past (explain _ topic windows) = past
 
 unfoldable pub past_all : ℕ → List Call → ℕ
 past_all past [] = past
@@ -479,8 +479,8 @@ holding_on {set} {x} {first} {past} {got} {s} ms (c ∷ cs) rs left h ins =
     let f : (beat c + beats cs) + left ≡ beat c + (beats cs + left) = omega arith in
     let k = left-same ((beat c + beats cs) + left) (beat c + (beats cs + left)) f
     (subst (λ (l : List ℕ). Holding set x first past l ((beat c + beats cs) + left) got s) e h) in
-    holding_on ms cs rs left (holding-next ms (readings cs ++ rs) (beats cs + left) c k (members-here ins))
-    (members-rest ins)
+    holding_on {past = past_next past c} {got = got_next x.flags got c} {s = after c s} ms cs rs left
+    (holding-next ms (readings cs ++ rs) (beats cs + left) c k (members-here ins)) (members-rest ins)
 
 pub holding-all : {set : List (List ℕ)} {x : Settings} {calls : List Call} {s : State} → MessageSet x.flags set
     → Premises set x calls s

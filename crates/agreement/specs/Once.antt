@@ -15,11 +15,11 @@ use Rattle.rows.specs.IdsLaws.{same_self, same_equal, among-append}
 use Rattle.node.specs.declared.Admit.TheVariants as answer
 use Rattle.history.specs.History.{State, Settings, Call, admit, heartbeat, advertise, ask, serve, after_all, reading}
 use Rattle.history.specs.History.{readings, first_of, beat, beats, refusal_at, brought, is_that, brings, times_got}
-use Rattle.history.specs.History.{explain, answer_in, is_new, is_duplicate, count_at, times, times_new, times_duplicate}
+use Rattle.history.specs.History.{after, explain, answer_in, is_new, is_duplicate, count_at, times, times_new, times_duplicate}
 use Rattle.history.specs.Laws.{readings-append, beats-append, brings_that}
 use Rattle.agreement.specs.Premises.{MessageSet, MemberAt, Members, none_left, member, Premises}
 use Rattle.agreement.specs.Holding.{with_got, got_by, got_next, got_all, Holding, admit-answers, admit-done}
-use Rattle.agreement.specs.Holding.{holding-start, holding-next, members-here, members-rest, past_all, holding_on}
+use Rattle.agreement.specs.Holding.{holding-start, holding-next, members-here, members-rest, past_all, past_next, holding_on}
 
 -- ---- a message among those got, and one more got
 pub with-again : (m p : List ℕ) (got : List (List ℕ)) → among m got ≡ true → among m (with_got p got) ≡ true
@@ -136,9 +136,10 @@ module _ {set : List (List ℕ)} {x : Settings} (ms : MessageSet x.flags set) (m
   unfolding times_got times readings beats
   some-calls [] h ins =
       record { answered = refl; never = λ t. refl; once = λ t l. absurd (omega arith) }
-  some-calls (c ∷ cs) h ins =
+  some-calls {past = past} {got = got} {s = s} (c ∷ cs) h ins =
       one_more_lem (call_one (readings cs) (beats cs) c h (members-here ins))
-      (some-calls cs (holding-next ms (readings cs) (beats cs) c h (members-here ins)) (members-rest ins))
+      (some-calls {past = past_next past c} {got = got_next x.flags got c} {s = after c s} cs
+      (holding-next ms (readings cs) (beats cs) c h (members-here ins)) (members-rest ins))
 
 -- ---- for a history under the premises
 module _ {set : List (List ℕ)} {x : Settings} {calls : List Call} {s : State} (ms : MessageSet x.flags set)

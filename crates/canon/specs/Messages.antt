@@ -82,6 +82,7 @@ list_count s (f ∷ fs) i n m l h =
 pairs_nth : (mode : Mode) {ds : List (List ℕ)} {ms : List RawMessage} {i : ℕ} {d : List ℕ}
     → Pairs (IsMessage mode) ds ms → Nth i ds d
     → (m : RawMessage) × (Nth i ms m) × (IsMessage mode d m)
+pairs_nth mode no_pairs n = elim n [ ]
 pairs_nth mode (◌paired◌ {y = m} p ps) here = (m, here, p)
 pairs_nth mode (p paired ps) (there n) = let r = pairs_nth mode ps n in (r.0, there r.1, r.2)
 

@@ -392,10 +392,18 @@ prune_canonical mode to _ x (is-prune g u h) =
     (each_last (numbers-small 3 g))
 
 -- ---- a control: its entries mean themselves, and so do those of two controls
+pairs-first : {A B : Type 0} {R : A → B → Type 0} {x : A} {y : B} {xs : List A} {ys : List B}
+    → Pairs R (x ∷ xs) (y ∷ ys) → R x y
+pairs-first (r paired p) = r
+
+pairs-rest : {A B : Type 0} {R : A → B → Type 0} {x : A} {y : B} {xs : List A} {ys : List B}
+    → Pairs R (x ∷ xs) (y ∷ ys) → Pairs R xs ys
+pairs-rest (r paired p) = p
+
 pairs-join : {X : Type 0} {R : List ℕ → X → Type 0} (enc : X → List ℕ) {xs ys : List X} → Pairs R (encodings enc xs) xs
     → Pairs R (encodings enc ys) ys → Pairs R (encodings enc (xs ++ ys)) (xs ++ ys)
 pairs-join enc {xs = []} p q = q
-pairs-join enc {xs = x ∷ xs} (r paired p) q = r paired pairs-join enc p q
+pairs-join enc {xs = x ∷ xs} p q = pairs-first p paired pairs-join enc (pairs-rest p) q
 
 each-join : {X : Type 0} (enc : X → List ℕ) (xs ys : List X) → Each Sized (encodings enc xs)
     → Each Sized (encodings enc ys) → Each Sized (encodings enc (xs ++ ys))

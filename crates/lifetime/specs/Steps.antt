@@ -134,4 +134,4 @@ pub before-clock : {g h : Gateway} {at : ℕ} {form : List ℕ} → Step g h (at
 before-clock (entered at form forward c f e) = forward
 
 pub at-clock : {g h : Gateway} {at : ℕ} {form : List ℕ} → Step g h (at ∷ []) (some form) → h.clock ≡ at
-at-clock (entered at form forward c f e) = c
+at-clock (entered at form _ c f e) = c

@@ -132,7 +132,7 @@ module _
 not-stored : (c : MessageCache) (st : List ℕ) (r : Plan) → (answered r ≢ put.Stored) → (kept_in c r ≡ c)
     × (stored_in c st r ≡ st)
 not-stored c st (no r) n = (refl, refl)
-not-stored c st (keep m id) n = absurd (n refl)
+not-stored c st (keep m _) n = absurd (n refl)
 
 pub put_refused : (c : MessageCache) (st : List ℕ) (ed : Edition) (body : List ℕ) (i : ℕ)
     → (put_number (answered (planned c st ed body i)) ≢ 0)

@@ -399,7 +399,7 @@ value-held mode s n to rest (i64 g) h = eight-held mode s n to _ rest g h
 value-held mode s n to rest (len-prefix b) h = bytes-held mode s n to _ rest b h
 value-held mode s n to rest (i32 g) h = four-held mode s n to _ rest g h
 
-held : {l type : ℕ} {v : List ℕ} {p : Payload} (mode : Mode) (s : List ℕ) (n to : ℕ) (rest : List ℕ) → 1 ≤ n
+held : (mode : Mode) (s : List ℕ) (n to : ℕ) (rest : List ℕ) {l type : ℕ} {v : List ℕ} {p : Payload} → 1 ≤ n
     → n ≤ 536870911 → l ≡ levels_of mode → Holds l n type v p → drop to s ≡ v ++ rest → Held mode s n type to p rest
 held mode s n to rest low high e (of_value_lem w) h = value-held mode s n to rest w h
 held Plain s n to rest low high e (grouped g) h = absurd (omega arith)

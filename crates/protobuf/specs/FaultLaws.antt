@@ -316,7 +316,7 @@ in_line {l} {n} {type} {m} {at} {to} {x} {why} s low high h g p y c =
     }
 
 -- a group that is stopped has a fault
-stop-fault : {l n base place : ℕ} {why : WireError} {es : List Entry} (v rest : List ℕ) → Numbered n → BodyIn l v es
+stop-fault : {l n base : ℕ} {es : List Entry} (v rest : List ℕ) {place : ℕ} {why : WireError} → Numbered n → BodyIn l v es
     → Stops l n (base + length (tag n 3) + length v) rest place why
     → FaultIn Groups (suc l) base (tag n 3 ++ (v ++ rest)) place why
 stop-fault {l} {n} {base} v rest m g ends =

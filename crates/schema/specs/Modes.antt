@@ -174,7 +174,7 @@ same_role s f MessageId h ih = refl
 same_role s f (Sub j form) h ih =
     ap (plus (own_of j)) (ih j form (value_in s f) refl (λ why e. h why (ap (plus (own_of j)) e)))
 
-same-along : {v w : Fields} (k : Kind) (s : List ℕ) → Alike k s v w
+same-along : (k : Kind) (s : List ℕ) {v w : Fields} → Alike k s v w
     → ((j : Kind) (p : List ℕ) → rank j < rank k → NoGroupIn j p → counted Groups j p ≡ counted Plain j p)
     → count_along (counted Groups) k s w ≡ count_along (counted Plain) k s v
 same-along k s ends ih = refl
@@ -283,7 +283,7 @@ role_spot_lem s f MessageId h ih = refl
 role_spot_lem s f (Sub j form) h ih =
     ap (inside f.field f.start) (ih j form (value_in s f) refl (λ why e. h why (ap (plus (own_of j)) e)))
 
-along-spot : {v w : Fields} (k : Kind) (s : List ℕ) → Alike k s v w
+along-spot : (k : Kind) (s : List ℕ) {v w : Fields} → Alike k s v w
     → ((j : Kind) (p : List ℕ) → rank j < rank k → NoGroupIn j p → spot_in Groups j p ≡ spot_in Plain j p)
     → spot_along (spot_in Groups) k s w ≡ spot_along (spot_in Plain) k s v
 along-spot k s ends ih = refl
