@@ -125,6 +125,8 @@ class Archives(Tree):
         self.assertEqual((self.made(), X86.stands("library")), (2, "nothing changed since it was made"))
 
     def test_rt_ends_after_it_wrote(self):
+        X86.archive("library")
+        self.put("crates/basis/src/lib.rt", "changed")
         self.put(os.path.join(self.kit, "broken-late"), "")
         X86.log_to(os.path.join(self.root, "log"))
         self.addCleanup(X86.LOG.close)
@@ -186,7 +188,7 @@ class Archives(Tree):
         with self.assertRaisesRegex(X86.Failure, "rt lib library_c ended with 1") as failed:
             X86.archive("library")
         X86.LOG.close()
-        self.assertEqual(failed.exception.tail, ["not proved: library"])
+        self.assertEqual(failed.exception.tail, ["not proved: library_c"])
         self.assertFalse(X86.stands("library"))
 
     def test_it_is_given(self):
@@ -207,7 +209,8 @@ class Archives(Tree):
                 X86.archive("library", anew=True)
 
     def test_what_is_said(self):
-        self.put("crates.txt", "pradulins: basis\n")
+        self.put("crates.txt", "pradulins: basis\npradulins_c staticlib: pradulins\n")
+        self.put("crates/pradulins_c/src/lib.rt", "h")
         said = []
 
         def told(*words):
@@ -371,12 +374,13 @@ class Ends(Tree):
         self.assertEqual((status, err), (1, ["host: FAILED: no %s/libpradulins.a" % self.root]))
 
     def test_not_proved(self):
-        self.put("crates.txt", "pradulins:\n")
+        self.put("crates.txt", "pradulins:\npradulins_c staticlib: pradulins\n")
+        self.put("crates/pradulins_c/src/lib.rt", "h")
         self.put(os.path.join(self.kit, "broken"), "")
         status, out, err = self.ended()
         self.assertEqual(status, 1)
         self.assertEqual(out, ["%-26s %-20s %s" % ("archive", "rt lib", "proves and makes it, some minutes")])
-        self.assertEqual(err, ["  not proved: pradulins", "host: all of this is in target/host/log",
+        self.assertEqual(err, ["  not proved: pradulins_c", "host: all of this is in target/host/log",
                                "host: FAILED: rt lib pradulins_c ended with 1"])
 
     def test_usage(self):
