@@ -38,7 +38,7 @@ returns-in-Last c =
     sym (l.invariant.3 ∙ turn _ l.k l.value l.weight _ c.loop-k-test.true (sym c.in-Last.is ∙ c.group_says-g.ensures))
 
 pub overflow_mul-value : goal.overflow_mul-value
-overflow_mul-value c = record { fits = (grows c).ranges }
+overflow_mul-value c = record { fits = (grows c).fits }
 
 pub overflow_add-value : goal.overflow_add-value
 overflow_add-value c = omega (arith, grows c)

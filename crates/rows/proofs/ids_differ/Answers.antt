@@ -33,6 +33,9 @@ returns-then-again c =
     c.bucket-b.result c.loop-i.invariant.1.1.1
     c.bucket-b.ensures) ∙ sym c.again.ensures ∙ c.if-again.true)
 
+pub bounds-met-b : goal.bounds-met-b
+bounds-met-b c = bucket_in _ c.bucket-b.result c.bucket-b.ensures
+
 pub bounds-met-b-in-loop-i : goal.bounds-met-b-in-loop-i
 bounds-met-b-in-loop-i c = bucket_in _ c.bucket-b.result c.bucket-b.ensures
 

@@ -2,6 +2,7 @@
 use Prim.Native.Nat.{◌-◌}
 use mathlib.Core.Path.{refl}
 use native.Mathlib.Omega.{arith}
+use Rattle.std.proofs.lemmas.Bool.{not_from_true}
 use Rattle.utf8.proofs.Leave.{block}
 use Rattle.utf8.proofs.past.Goals as goal
 
@@ -31,7 +32,7 @@ loop-i-preserved c =
       omega (arith, l.invariant.0),
       (
         c.loop-i-test.true,
-        block a.s.now a.at l.i a.n c.ascii.result l.invariant.1.1 c.ascii.ensures c.if-not-ascii.false,
+        block a.s.now a.at l.i a.n c.ascii.result l.invariant.1.1 c.ascii.ensures (not_from_true c.ascii.result c.if-not-ascii.false),
       ),
     )
 
