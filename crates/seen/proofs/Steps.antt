@@ -1,12 +1,12 @@
 -- The steps on the rows, as the code makes them.
 use Prim.Native.Nat.{ℕ, ◌+◌, ◌-◌, ◌*◌, ◌≤◌, ◌<◌}
 use mathlib.Core.Path.{◌≡◌, sym, ap, ◌∙◌}
-use mathlib.Core.List.{List, [], ◌++◌, append_assoc, append-nil}
+use mathlib.Core.List.{List, append_assoc}
 use native.Mathlib.Omega.{arith}
-use lib.ListN.{length, take, drop, set, length-drop, drop_of_length-le}
-use lib.Seq.{sets, sets-eq, take_all, take-length, drop-drop}
+use lib.ListN.{length, take, drop, set}
+use lib.Seq.{sets, sets-eq, drop-drop}
 use lib.Dec.{ltb, leb}
-use borrow.Rule.Slice.PartMut.{mid_of, put_mid}
+use borrow.Rule.Slice.PartMut.{put_mid}
 use mathlib.Core.Bool.{true, false}
 use borrow.Author.Tests.{eq-eqb, ne_eqb, le-leb, lt-leb, leb-true}
 use Rattle.basis.specs.Cases.{both}
@@ -22,12 +22,10 @@ use Rattle.seen.specs.Calls.{held_in, cleaned, can_enter, entered, entered_store
 use Rattle.seen.specs.Unique.{Enters}
 
 -- what a copy into the part from `at` on leaves in the whole
-pub sets-part : (st id y : List ℕ) (at : ℕ) → at + length id ≤ length st → y ≡ take (length id) id ++ drop (length id) (mid_of at (length st - at) st) → put_mid at (length st - at) st y ≡ sets st at id
+pub sets-part : (st id y : List ℕ) (at : ℕ) → at + length id ≤ length st → y ≡ id → put_mid at ((at + length id) - at) st y ≡ sets st at id
 sets-part st id y at h e =
-    let l : length (drop at st) ≤ length st - at = rw length-drop (omega arith) in
-    let m : take (length st - at) (drop at st) ≡ drop at st = take_all (length st - at) (drop at st) l in
-    let z : drop (length st - at) (drop at st) ≡ [] = drop_of_length-le (drop at st) l in
-    rw (e, m, z, take-length, append-nil, drop-drop) (sym (sets-eq id st at h ∙ append_assoc (take at st) id (drop (at + length id) st)))
+    let k : (at + length id) - at ≡ length id = omega arith in
+    rw (e, k, drop-drop) (sym (sets-eq id st at h ∙ append_assoc (take at st) id (drop (at + length id) st)))
 
 pub dropped-is : (cap k p : ℕ) (c : SeenCache) → p ≡ place_of (ring_of cap c) k → ◌≡◌ {A = SeenCache} (record { start = p; count = c.count - k; expiry = c.expiry; len = c.len }) (dropped cap k c)
 unfolding dropped

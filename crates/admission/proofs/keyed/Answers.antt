@@ -29,7 +29,6 @@ slice_bounds-key_matches-end c = let h = c.requires.place_inside _ _ c.in-Presen
 
 pub returns-then-key_matches : goal.returns-then-key_matches
 returns-then-key_matches c =
-    let key = c.key-1 in
     there_on _ _ _ _ _ _ _ c.in-Present.is c.is_key.ensures _
     c.key_matches.ensures _ c.if-is_key.true c.if-key_matches.true c.worded-then-key_matches.ensures
 

@@ -49,7 +49,6 @@ overflow_sub-len c =
 
 pub loop-at-smaller : goal.loop-at-smaller
 loop-at-smaller c =
-    let step = c.step-1 in
     let read-field = c.read_field-step in
     let l = c.loop-at in
     let a = c.args in
@@ -62,7 +61,6 @@ loop-at-preserved c =
     let note2 = c.note-in-At in
     let note = c.note in
     let is-topic = c.is_topic-there in
-    let step = c.step-1 in
     let read-field = c.read_field-step in
     let l = c.loop-at in
     let a = c.args in

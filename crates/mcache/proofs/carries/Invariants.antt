@@ -6,8 +6,8 @@ use Rattle.mcache.proofs.carries.Given as goal
 
 abbrev pub invariant-loop-i : goal.invariant-loop-i
 invariant-loop-i l =
-    let l = map (cut l.message) (spans_in l.starts l.sizes l.n) in
-    (l.i ≤ l.n) × (among l.topic (drop l.i l) ≡ among l.topic l)
+    let ps = map (cut l.message) (spans_in l.starts l.sizes l.n) in
+    (l.i ≤ l.n) × (among l.topic (drop l.i ps) ≡ among l.topic ps)
 
 abbrev pub decreases-loop-i : goal.decreases-loop-i
 decreases-loop-i l = l.n - l.i

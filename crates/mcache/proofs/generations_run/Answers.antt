@@ -28,7 +28,7 @@ returns-then-age-ring c =
     c.loop-i.i c.loop-i.invariant.1 _
     c.wrapping_sub_u64-age.result c.loop-i-test.true
     (ap (λ (p : ℕ). get_or c.args.generation.now p 0)
-    c.place-p.ensures) c.wrapping_sub_u64-age.ensures (search rules) (search rules) c.if-age-ring.true
+    c.place-p.ensures) c.wrapping_sub_u64-age.ensures.value (search rules) (search rules) c.if-age-ring.true
 
 pub loop-i-preserved : goal.loop-i-preserved
 loop-i-preserved c = (
@@ -39,7 +39,7 @@ loop-i-preserved c = (
       c.loop-i.i c.loop-i.invariant.1 _
       c.wrapping_sub_u64-age.result c.loop-i-test.true
       (ap (λ (p : ℕ). get_or c.args.generation.now p 0)
-      c.place-p.ensures) c.wrapping_sub_u64-age.ensures c.if-age-ring.false,
+      c.place-p.ensures) c.wrapping_sub_u64-age.ensures.value c.if-age-ring.false,
 )
 
 pub returns : goal.returns

@@ -16,9 +16,6 @@ pub bounds-lens-p : goal.bounds-lens-p
 bounds-lens-p c =
     let w = row_lies c.args.ring c.args.lens.now c.args.id_lens.now c.args.ids.now (table c.args.counts.now c.args.starts.now c.args.sizes.now) c.args.store.now c.loop-i.i c.place-p.result c.requires c.loop-i-test.true c.place-p.ensures in omega arith
 
-pub overflow_cast-n : goal.overflow_cast-n
-overflow_cast-n c = omega (arith, c.shared_slice_known-in-loop-i-1.given c.place-p.result)
-
 pub returns-then-n-gt-MESSAGE_SIZE : goal.returns-then-n-gt-MESSAGE_SIZE
 returns-then-n-gt-MESSAGE_SIZE c =
     gives-not _ c.args.ring c.args.lens.now c.args.id_lens.now c.args.ids.now (table c.args.counts.now c.args.starts.now c.args.sizes.now) c.args.store.now c.loop-i.i c.loop-i.invariant.1 c.loop-i-test.true
@@ -44,9 +41,6 @@ bounds-id_lens-p c =
     let w = row_lies c.args.ring c.args.lens.now c.args.id_lens.now c.args.ids.now (table c.args.counts.now c.args.starts.now
     c.args.sizes.now) c.args.store.now c.loop-i.i c.place-p.result c.requires c.loop-i-test.true c.place-p.ensures in omega arith
 
-pub overflow_cast-id_end : goal.overflow_cast-id_end
-overflow_cast-id_end c = omega (arith, c.shared_slice_known-in-loop-i-2-1.given c.place-p.result)
-
 pub overflow_add-id_end : goal.overflow_add-id_end
 overflow_add-id_end c =
     let w = row_lies c.args.ring c.args.lens.now
@@ -59,9 +53,6 @@ overflow_mul-slot c =
 pub bounds-counts-p : goal.bounds-counts-p
 bounds-counts-p c =
     let w = row_lies c.args.ring c.args.lens.now c.args.id_lens.now c.args.ids.now (table c.args.counts.now c.args.starts.now c.args.sizes.now) c.args.store.now c.loop-i.i c.place-p.result c.requires c.loop-i-test.true c.place-p.ensures in omega arith
-
-pub overflow_cast-topics : goal.overflow_cast-topics
-overflow_cast-topics c = omega (arith, c.shared_slice_known-in-loop-i-3-1.given c.place-p.result)
 
 pub slice_bounds-kept_with-end : goal.slice_bounds-kept_with-end
 slice_bounds-kept_with-end c =

@@ -11,9 +11,6 @@ loop-i-init c = (omega arith, omega arith)
 pub bounds-rows-i : goal.bounds-rows-i
 bounds-rows-i c = omega (arith, c.requires)
 
-pub overflow_cast-q : goal.overflow_cast-q
-overflow_cast-q c = omega (arith, c.shared_slice_known-in-loop-i-1.given c.loop-i.i)
-
 pub loop-i-preserved : goal.loop-i-preserved
 loop-i-preserved c =
     let a = c.args in (

@@ -15,11 +15,11 @@ returns-then-there c =
     let spot = c.spot-at in
     let a = c.args in
     let pre = c.requires in
-    rw c.if-there.true (
-      refl,
-      told-put (id_at message_id_size a.id_lens.now a.ids.now) a.p a.n spot.result a.rows.now _ pre.0
-          spot.ensures c.put_row.ensures,
-    )
+    rw c.if-there.true (record {
+      value = refl;
+      rows_after = told-put (id_at message_id_size a.id_lens.now a.ids.now) a.p a.n spot.result a.rows.now _ pre.0
+          spot.ensures c.put_row.ensures;
+    })
 
 pub returns : goal.returns
-returns c = rw c.if-there.false (refl, refl)
+returns c = rw c.if-there.false (record { value = refl; rows_after = refl })

@@ -12,9 +12,6 @@ bounds-window-p c =
     c.requires.starts (omega (arith, c.requires.within)) in
     let e = c.place-p.ensures in omega (arith, c.requires.size)
 
-pub overflow_cast-w : goal.overflow_cast-w
-overflow_cast-w c = omega (arith, c.shared_slice_known-in-loop-i-1.given c.place-p.result)
-
 pub returns-then-last-w : goal.returns-then-last-w
 returns-then-last-w c =
     falls-not c.args.most

@@ -1,5 +1,4 @@
 -- `seen::expired` meets its contract: those that were passed have expired, and as many of the rest as the rest says.
-use Prim.Native.Nat.{◌-◌}
 use Rattle.seen.specs.StateLaws.{spent-more, spent-stop, spent-end}
 use Rattle.seen.proofs.expired.Goals as goal
 

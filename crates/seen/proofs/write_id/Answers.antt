@@ -3,6 +3,4 @@ use Rattle.seen.proofs.Steps.{sets-part}
 use Rattle.seen.proofs.write_id.Goals as goal
 
 pub returns : goal.returns
-returns c =
-    let a = c.args in
-    sets-part a.store.now a.id.now _ a.at c.requires c.UNRESOLVED-copy.ensures.1
+returns c = sets-part c.args.store.now c.args.id.now _ c.args.at c.requires c.copy_from_slice.ensures.after

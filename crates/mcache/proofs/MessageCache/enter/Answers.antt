@@ -3,7 +3,7 @@ use Rattle.mcache.proofs.MessageCache.enter.Goals as goal
 
 pub returns-then-max-eq0 : goal.returns-then-max-eq0
 returns-then-max-eq0 c =
-    let h = entered-none c.args.self c.args.store.now c.args.part.now c.args.id.now c.wrapping_add_u64.result c.if-max-eq0.true c.wrapping_add_u64.ensures in record { value = h.0; store_after = h.1 }
+    let h = entered-none c.args.self c.args.store.now c.args.part.now c.args.id.now c.wrapping_add_u64.result c.if-max-eq0.true c.wrapping_add_u64.ensures.value in record { value = h.0; store_after = h.1 }
 
 pub append-requires : goal.append-requires
 append-requires c =

@@ -5,7 +5,7 @@ use Rattle.admission.specs.Admission.{Span}
 use Rattle.admission.specs.TopicLaws.{counts-places, starts-within, sizes-within}
 use Rattle.mcache.proofs.Walks.{kept-length, kept-values, kept-below}
 use Rattle.mcache.proofs.Answers.{roomy, kept-not, kept-placed, kept-short, under-held, under-new}
-use borrow.Author.Rules.{length_unmapped}
+use borrow.Author.Rules.{rules}
 use Rattle.mcache.proofs.MessageCache.keep.Goals as goal
 
 pub returns-then-row-self : goal.returns-then-row-self
@@ -21,20 +21,18 @@ enter-cache-requires c =
     let can-keep = c.can_keep in
     let ring = c.ring-ring in
     let a = c.args in
-    let good = c.well_formed in
-    let g = good.0 in
     let k = (rw ring.ensures at (sym can-keep.ensures ∙ if1.true)) in
     let found = rw Mode-of.ensures at topics-of.ensures in
     let s = kept-short a.self a.store.now a.part.now a.id.now k in record {
       placed = kept-placed a.self a.store.now a.part.now a.id.now k
-          (length_unmapped ℕ a.self.generation 64 g.1.1.1.1.1.1.1.0.1.0.1)
-          (length_unmapped ℕ a.self.window 64 g.1.1.1.1.1.1.1.1.0.1.0.1)
-          (length_unmapped ℕ a.self.len 64 g.1.1.1.1.1.1.1.1.1.0.1.0.1)
-          (length_unmapped ℕ a.self.id_len 64 g.1.1.1.1.1.1.1.1.1.1.0.1.0.1)
-          (length_unmapped ℕ a.self.ids 8192 g.1.1.1.1.1.1.1.1.1.1.1.0.1.0.1)
-          (roomy a.self (length_unmapped ℕ a.self.topic_count 64 g.1.1.1.1.1.1.1.1.1.1.1.1.0.1.0.1)
-          (length_unmapped ℕ a.self.topic_start 256 g.1.1.1.1.1.1.1.1.1.1.1.1.1.0.1.0.1)
-          (length_unmapped ℕ a.self.topic_len 256 g.1.1.1.1.1.1.1.1.1.1.1.1.1.1.0.1.0.1));
+          (search rules)
+          (search rules)
+          (search rules)
+          (search rules)
+          (search rules)
+          (roomy a.self (search rules)
+          (search rules)
+          (search rules));
       part_len_bound = s;
       found = record {
         counts = kept-length (mode_of a.self.flags) a.part.now topics-of.result.count least.result

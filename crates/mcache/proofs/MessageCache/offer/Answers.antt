@@ -4,46 +4,21 @@ use Rattle.rows.specs.declared.Ring.{Ring}
 use Rattle.mcache.specs.Messages.{offer_for}
 use Rattle.mcache.proofs.Answers.{roomy, offer_not, offer_lost, offer_found}
 use Rattle.mcache.proofs.Walks.{row_in}
-use borrow.Author.Rules.{length_unmapped}
+use borrow.Author.Rules.{rules}
 use Rattle.mcache.proofs.MessageCache.offer.Goals as goal
-
-pub slice_bounds-has_topic-end-then-row-ring : goal.slice_bounds-has_topic-end-then-row-ring
-slice_bounds-has_topic-end-then-row-ring c =
-    let a = c.args in
-    let g = c.good in
-    sym (length_unmapped ℕ a.self.topic_count 64 g.0.1.1.1.1.1.1.1.1.1.1.1.1.0.1.0.1)
-
-pub slice_bounds-has_topic-end-then-row-ring-2 : goal.slice_bounds-has_topic-end-then-row-ring-2
-slice_bounds-has_topic-end-then-row-ring-2 c =
-    let a = c.args in
-    let g = c.good in
-    sym (length_unmapped ℕ a.self.topic_start 256 g.0.1.1.1.1.1.1.1.1.1.1.1.1.1.0.1.0.1)
-
-pub slice_bounds-has_topic-end-then-row-ring-3 : goal.slice_bounds-has_topic-end-then-row-ring-3
-slice_bounds-has_topic-end-then-row-ring-3 c =
-    let a = c.args in
-    let g = c.good in
-    sym (length_unmapped ℕ a.self.topic_len 256 g.0.1.1.1.1.1.1.1.1.1.1.1.1.1.1.0.1.0.1)
 
 pub has_topic-carried-requires : goal.has_topic-carried-requires
 has_topic-carried-requires c =
     let a = c.args in
-    let g = c.good in
     let ring = c.ring-ring in
     let p = c.place-p in
     let l = sym c.rows_lie.ensures ∙ c.if-rows_lie.true in
     let h = c.if-row-ring.true in (
       (row_in ring.result c.find-row.result p.result l h p.ensures).0,
-      roomy a.self (length_unmapped ℕ a.self.topic_count 64 g.0.1.1.1.1.1.1.1.1.1.1.1.1.0.1.0.1)
-          (length_unmapped ℕ a.self.topic_start 256 g.0.1.1.1.1.1.1.1.1.1.1.1.1.1.0.1.0.1)
-          (length_unmapped ℕ a.self.topic_len 256 g.0.1.1.1.1.1.1.1.1.1.1.1.1.1.1.0.1.0.1),
+      roomy a.self (search rules)
+          (search rules)
+          (search rules),
     )
-
-pub slice_bounds-byte_at-end : goal.slice_bounds-byte_at-end
-slice_bounds-byte_at-end c =
-    let a = c.args in
-    let g = c.good in
-    sym (length_unmapped ℕ a.self.«window» 64 g.0.1.1.1.1.1.1.1.1.0.1.0.1)
 
 pub returns-then-row-ring : goal.returns-then-row-ring
 returns-then-row-ring c =

@@ -1,7 +1,7 @@
 use Rattle.std.proofs.Common.{ℕ, sym, ◌∙◌}
 use Rattle.ids.specs.IdLaws.{message-inside}
 use Rattle.mcache.proofs.Answers.{roomy, tested, put-done, puts_no, puts_as, plan_store, plan_malformed, plan_refused, plan_missing, plan_at_lem}
-use borrow.Author.Rules.{length_unmapped}
+use borrow.Author.Rules.{rules}
 use Rattle.mcache.proofs.MessageCache.put.Goals as goal
 
 pub slice_bounds-put_part-count : goal.slice_bounds-put_part-count
@@ -24,18 +24,15 @@ slice_bounds-put_part-end c =
 
 pub put_part-requires : goal.put_part-requires
 put_part-requires c =
-    let enum-told3 = c.enum_told-in-Fine-1 in
     let lent = c.lent-lent in
     let a = c.args in
-    let good = c.well_formed in
     let s = a.self in
-    let g = good.0.1.1.1.1.1.1.1 in
-    tested s a.store.now (sym c.in-Fine.is ∙ lent.ensures) (length_unmapped ℕ s.generation 64 g.0.1.0.1)
-    (length_unmapped ℕ s.window 64 g.1.0.1.0.1) (length_unmapped ℕ s.len 64 g.1.1.0.1.0.1)
-    (length_unmapped ℕ s.id_len 64 g.1.1.1.0.1.0.1) (length_unmapped ℕ s.ids 8192 g.1.1.1.1.0.1.0.1)
-    (roomy s (length_unmapped ℕ s.topic_count 64 g.1.1.1.1.1.0.1.0.1)
-    (length_unmapped ℕ s.topic_start 256 g.1.1.1.1.1.1.0.1.0.1)
-    (length_unmapped ℕ s.topic_len 256 g.1.1.1.1.1.1.1.0.1.0.1))
+    tested s a.store.now (sym c.in-Fine.is ∙ lent.ensures) (search rules)
+    (search rules) (search rules)
+    (search rules) (search rules)
+    (roomy s (search rules)
+    (search rules)
+    (search rules))
 
 pub returns-in-BadStore : goal.returns-in-BadStore
 returns-in-BadStore c =
@@ -70,10 +67,8 @@ returns-in-Count c =
 pub returns-in-At : goal.returns-in-At
 returns-in-At c =
     let message_at_lem = c.message_at-m in
-    let enum-told4 = c.enum_told-in-Fine-c-1 in
     let accept = c.accept-c in
     let Mode-of = c.mode_of-mode in
-    let enum-told3 = c.enum_told-in-Fine-1 in
     let lent = c.lent-lent in
     let a = c.args in
     put-done _ _ _ _ _ _ _ (puts_as a.self a.store.now _ _ _ _ _

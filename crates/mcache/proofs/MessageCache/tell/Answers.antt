@@ -6,37 +6,20 @@ use Rattle.mcache.proofs.Answers.{roomy}
 use Rattle.mcache.proofs.Walks.{row_in}
 use Rattle.mcache.proofs.Listing.{gather-turn, gather-done}
 use Rattle.mcache.proofs.Steps.{tells-rows, tells_none}
-use borrow.Author.Rules.{length_unmapped}
+use borrow.Author.Rules.{rules}
 use Rattle.mcache.proofs.MessageCache.tell.Goals as goal
 
 pub loop-i-init : goal.loop-i-init
 loop-i-init c = (omega arith, omega arith, refl, record { size = refl; behind = refl; goes = refl })
 
-pub slice_bounds-is_told-end-in-loop-i-2 : goal.slice_bounds-is_told-end-in-loop-i-2
-slice_bounds-is_told-end-in-loop-i-2 c = sym (length_unmapped ℕ c.args.self.topic_count 64 c.well_formed.0.1.1.1.1.1.1.1.1.1.1.1.1.0.1.0.1)
-
-pub slice_bounds-is_told-end-in-loop-i-3 : goal.slice_bounds-is_told-end-in-loop-i-3
-slice_bounds-is_told-end-in-loop-i-3 c =
-    sym (length_unmapped ℕ c.args.self.topic_start 256 c.well_formed.0.1.1.1.1.1.1.1.1.1.1.1.1.1.0.1.0.1)
-
-pub slice_bounds-is_told-end-in-loop-i-4 : goal.slice_bounds-is_told-end-in-loop-i-4
-slice_bounds-is_told-end-in-loop-i-4 c =
-    sym (length_unmapped ℕ c.args.self.topic_len 256 c.well_formed.0.1.1.1.1.1.1.1.1.1.1.1.1.1.1.0.1.0.1)
-
 pub is_told-there-requires : goal.is_told-there-requires
 is_told-there-requires c = (
   (row_in c.ring-ring.result c.loop-i.i c.place-p.result (sym c.rows_lie.ensures ∙ c.if-rows_lie.true) c.loop-i-test.true c.place-p.ensures).0,
   roomy c.args.self
-      (length_unmapped ℕ c.args.self.topic_count 64 c.well_formed.0.1.1.1.1.1.1.1.1.1.1.1.1.0.1.0.1)
-      (length_unmapped ℕ c.args.self.topic_start 256 c.well_formed.0.1.1.1.1.1.1.1.1.1.1.1.1.1.0.1.0.1)
-      (length_unmapped ℕ c.args.self.topic_len 256 c.well_formed.0.1.1.1.1.1.1.1.1.1.1.1.1.1.1.0.1.0.1),
+      (search rules)
+      (search rules)
+      (search rules),
 )
-
-pub slice_bounds-tell_row-end-in-loop-i : goal.slice_bounds-tell_row-end-in-loop-i
-slice_bounds-tell_row-end-in-loop-i c = sym (length_unmapped ℕ c.args.self.id_len 64 c.well_formed.0.1.1.1.1.1.1.1.1.1.1.0.1.0.1)
-
-pub slice_bounds-tell_row-end-in-loop-i-2 : goal.slice_bounds-tell_row-end-in-loop-i-2
-slice_bounds-tell_row-end-in-loop-i-2 c = sym (length_unmapped ℕ c.args.self.ids 8192 c.well_formed.0.1.1.1.1.1.1.1.1.1.1.1.0.1.0.1)
 
 pub tell_row-count-requires : goal.tell_row-count-requires
 tell_row-count-requires c =
