@@ -23,4 +23,4 @@ returns c =
     puts_as (shown-there _ _ c.if-count-eq0.false
     c.if-made-count.false) (omega arith) (puts_then (wrote_puts
     (omega arith) c.put_word-i.ensures) (hex_puts _ (omega arith)
-    c.put_hex.ensures))
+    (c.put_hex.ensures.value, c.put_hex.ensures.out_after)))

@@ -7,4 +7,4 @@ use Rattle.lines.proofs.put_refused.Goals as goal
 pub returns : goal.returns
 returns c =
     let a = c.args in
-    wrote_in (length-refused a.refusal a.count a.first a.second a.third (omega arith) (omega arith) (omega arith) (omega arith)) c.put_refused.ensures
+    wrote_in (length-refused a.refusal a.count a.first a.second a.third (omega arith) (omega arith) (omega arith) (omega arith)) (c.put_refused.ensures.value, c.put_refused.ensures.out_after)

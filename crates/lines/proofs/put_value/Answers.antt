@@ -5,4 +5,4 @@ use Rattle.lines.specs.Laws.{wrote_in}
 use Rattle.lines.proofs.put_value.Goals as goal
 
 pub returns : goal.returns
-returns c = wrote_in (length-number _ (omega arith)) c.put_number.ensures
+returns c = wrote_in (length-number _ (omega arith)) (c.put_number.ensures.value, c.put_number.ensures.out_after)

@@ -5,4 +5,4 @@ use Rattle.lines.specs.Laws.{wrote_in}
 use Rattle.lines.proofs.start_line.Goals as goal
 
 pub returns : goal.returns
-returns c = wrote_in (decimal_twenty _ (omega arith)) c.put_decimal.ensures
+returns c = wrote_in (decimal_twenty _ (omega arith)) (c.put_decimal.ensures.value, c.put_decimal.ensures.out_after)

@@ -1,5 +1,4 @@
 -- `text::spell_hex` meets its contract: the digits of what is left, put at i, make what all of them at `at` make.
-use Prim.Native.Nat.{◌-◌}
 use mathlib.Core.Path.{refl, ◌∙◌}
 use native.Mathlib.Omega.{arith}
 use lib.ListN.{length-set}
@@ -9,9 +8,6 @@ use Rattle.text.proofs.spell_hex.Goals as goal
 
 pub loop-j-init : goal.loop-j-init
 loop-j-init c = (omega arith, omega arith, refl, refl)
-
-pub glyph-requires : goal.glyph-requires
-glyph-requires c = omega (arith, c.shared_slice_known-in-loop-j-1.given c.loop-j.j)
 
 pub bounds-out-i-in-loop-j : goal.bounds-out-i-in-loop-j
 bounds-out-i-in-loop-j c = simp length-set (omega arith)

@@ -1,5 +1,4 @@
 -- `text::spell_text` meets its contract: what is left of the text, put at at + j, makes what all of it at `at` makes.
-use Prim.Native.Nat.{◌-◌}
 use mathlib.Core.Path.{refl, sym, ◌∙◌}
 use native.Mathlib.Omega.{arith}
 use native.Mathlib.Nat.{add-zero}
