@@ -35,7 +35,6 @@ returns-in-Refused c =
 pub returns-else-value-gt3 : goal.returns-else-value-gt3
 returns-else-value-gt3 c =
     let s = c.args.input.now in
-    let r = c.raw-in-Value-1.given in
-    key-read _ _ _ c.if-input-eq0.false c.if-b-ne-TYPE_TAG.false (read-rest s 1 _ _ c.read_uvarint-raw.ensures r.1)
-    (c.decode_data.ensures ∙ ap (λ (t : KeyType). on_data s t (1 + r.0.1.0)) c.type_of-key_type.ensures
+    key-read _ _ _ c.if-input-eq0.false c.if-b-ne-TYPE_TAG.false (read-rest s 1 _ _ c.read_uvarint-raw.ensures c.in-Value.is)
+    (c.decode_data.ensures ∙ ap (λ (t : KeyType). on_data s t (1 + c.in-Value.used)) c.type_of-key_type.ensures
     ∙ simp (le-ltb _ _ c.if-value-gt3.false))

@@ -1,4 +1,5 @@
 -- `key::type_of` meets its contract.
+use native.Mathlib.Omega.{arith}
 use Rattle.key.specs.Decode.{type_of}
 use Rattle.key.proofs.Steps.{type_rest}
 use Rattle.key.proofs.type_of.Goals as goal
@@ -16,4 +17,4 @@ unfolding type_of
 returns-in-2 c = simp c.in-2.is
 
 pub returns-in_default : goal.returns-in_default
-returns-in_default c = type_rest _ c.in_default.rest.0.0.1 c.in_default.rest.0.1 c.in_default.rest.1
+returns-in_default c = type_rest _ (λ z. omega arith) (λ z. omega arith) (λ z. omega arith)

@@ -1,6 +1,6 @@
 -- `key::told::told_key` meets its contract.
 use mathlib.Core.Path.{sym, ap, ◌∙◌}
-use mathlib.Core.List.{◌∷◌}
+use mathlib.Core.List.{[], ◌∷◌}
 use Prim.Native.Nat.{ℕ}
 use Rattle.basis.specs.Told.{done}
 use Rattle.key.specs.Told.{key_told}
