@@ -23,9 +23,6 @@ returns-in-Refused c =
     let l = c.loop-k in
     sym (l.invariant.3 ∙ turn _ l.k l.value l.weight _ c.loop-k-test.true (sym c.in-Refused.is ∙ c.group_says-g.ensures))
 
-pub overflow_cast-result : goal.overflow_cast-result
-overflow_cast-result c = omega (arith, c.shared_slice_known-in-loop-k-1.given c.loop-k.k)
-
 pub overflow_mul-result : goal.overflow_mul-result
 overflow_mul-result c = record { fits = (fit c).product }
 

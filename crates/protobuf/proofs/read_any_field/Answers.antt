@@ -6,28 +6,10 @@ use Prim.Native.Nat.{◌+◌}
 use Rattle.protobuf.proofs.Short.{short-number, middle_field}
 use Rattle.protobuf.proofs.read_any_field.Goals as goal
 
-pub overflow_cast-result : goal.overflow_cast-result
-overflow_cast-result c = omega (arith, c.shared_slice_known-then-tag_end-input-1.given (c.args.idx))
-
-pub overflow_cast-result-then-is_short : goal.overflow_cast-result-then-is_short
-overflow_cast-result-then-is_short c = omega (arith, c.shared_slice_known-then-tag_end-input-2-1.given (c.args.idx + 1))
-
 pub returns-then-is_short : goal.returns-then-is_short
 returns-then-is_short c =
     let a = c.args in let q = c.is_short.ensures c.if-is_short.true in
     short-number a.mode a.input.now a.idx _ _ c.if-tag_end-input.true refl refl q.0 q.1 q.2 q.3
-
-pub overflow_cast-len-then-is_middle : goal.overflow_cast-len-then-is_middle
-overflow_cast-len-then-is_middle c = omega (arith, c.shared_slice_known-then-second-input-1.given (c.args.idx + 1 + 1))
-
-pub overflow_mul-len : goal.overflow_mul-len
-overflow_mul-len c = omega (arith, c.shared_slice_known-then-second-input-1.given (c.args.idx + 1 + 1))
-
-pub overflow_add-len : goal.overflow_add-len
-overflow_add-len c = omega (arith, c.shared_slice_known-then-second-input-1.given (c.args.idx + 1 + 1))
-
-pub overflow_cast-result-then-len-input : goal.overflow_cast-result-then-len-input
-overflow_cast-result-then-len-input c = omega (arith, c.shared_slice_known-then-tag_end-input-1.given (c.args.idx))
 
 pub returns-then-len-input : goal.returns-then-len-input
 returns-then-len-input c =

@@ -8,12 +8,6 @@ use Rattle.protobuf.proofs.read_field.Goals as goal
 pub returns-then-input-idx : goal.returns-then-input-idx
 returns-then-input-idx c = let a = c.args in no_field a.mode a.input.now a.idx c.if-input-idx.true
 
-pub overflow_cast-len : goal.overflow_cast-len
-overflow_cast-len c = omega (arith, c.shared_slice_known-3-1.given (c.args.idx + 1))
-
-pub overflow_cast-result : goal.overflow_cast-result
-overflow_cast-result c = omega (arith, c.shared_slice_known-2-1.given (c.args.idx))
-
 pub returns-then-len-input : goal.returns-then-len-input
 returns-then-len-input c =
     let a = c.args in let q = c.is_short.ensures c.if-is_short.true in

@@ -8,12 +8,6 @@ use Rattle.rows.proofs.bucket.Goals as goal
 pub loop-i-init : goal.loop-i-init
 loop-i-init c = (omega arith, (omega arith, bucket_none c.args.id.now (length c.args.id.now) (omega arith)))
 
-pub overflow_cast-x : goal.overflow_cast-x
-overflow_cast-x c = omega (arith, c.shared_slice_known-1.given (c.loop-i.i - 1))
-
-pub overflow_add-x : goal.overflow_add-x
-overflow_add-x c = let b = c.shared_slice_known-1.given (c.loop-i.i - 1) in search rules
-
 pub loop-i-preserved : goal.loop-i-preserved
 loop-i-preserved c =
     (omega arith, (omega arith, bucket_more c.args.id.now c.loop-i.i c.loop-i.x c.loop-i-test.true c.loop-i.invariant.0 c.loop-i.invariant.1.1))

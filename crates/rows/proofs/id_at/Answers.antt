@@ -6,16 +6,9 @@ use Rattle.rows.proofs.id_at.Goals as goal
 pub returns-then-lens-p : goal.returns-then-lens-p
 returns-then-lens-p c = id-past c.args.size c.args.lens.now c.args.ids.now c.args.p c.if-lens-p.true
 
-pub overflow_cast-n : goal.overflow_cast-n
-overflow_cast-n c = omega (arith, c.shared_slice_known-1.given c.args.p)
-
 pub overflow_mul-begin : goal.overflow_mul-begin
 overflow_mul-begin c =
     let f = product-fits c.args.p c.args.size c.if-p-lt4294967296.true c.if-size-lt4294967296.true in omega arith
-
-pub overflow_add-end : goal.overflow_add-end
-overflow_add-end c =
-    let f = product-fits c.args.p c.args.size c.if-p-lt4294967296.true c.if-size-lt4294967296.true in omega (arith, c.shared_slice_known-1.given c.args.p)
 
 pub returns-then-end-ids : goal.returns-then-end-ids
 returns-then-end-ids c = id-whole c.args.size c.args.lens.now c.args.ids.now c.args.p
