@@ -1,5 +1,5 @@
 -- `peer_id::read_uvarint` meets its contract: the value so far, and what the bytes from k on give above it, make what all of them give.
-use Prim.Native.Nat.{◌+◌, ◌-◌}
+use Prim.Native.Nat.{◌+◌}
 use mathlib.Core.Path.{refl, sym, ◌∙◌}
 use native.Mathlib.Omega.{arith}
 use lib.ListN.{drop, get_or}

@@ -1,5 +1,4 @@
 -- The cycle {skip_field, skip_group} meets its contracts: each answer is the step of `skip_field` or `skip_group` that the tests picked.
-use Prim.Native.Nat.{◌<◌}
 use mathlib.Core.Path.{refl, sym, ◌∙◌}
 use native.Mathlib.Omega.{arith}
 use Rattle.basis.specs.declared.Mode.TheVariants.{Groups}

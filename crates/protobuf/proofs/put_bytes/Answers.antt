@@ -1,7 +1,6 @@
 -- `protobuf::put_bytes` meets its contract: where they have the room, they are copied there.
 use Prim.Native.Nat.{◌+◌, ◌≤◌}
 use mathlib.Core.Path.{sym, ◌∙◌}
-use mathlib.Core.Bool.{true, false}
 use lib.ListN.{length}
 use borrow.Author.Tests.{leb-true}
 use Rattle.basis.specs.Lists.{end_fits, set-fits, end_short, set-short}

@@ -1,8 +1,6 @@
 -- `protobuf::read_any_field` meets its contract: a number whose tag and value are a byte each, and a field with a length of two bytes, are read here, any other
 -- field by `read_long_field`.
-use native.Mathlib.Omega.{arith}
 use mathlib.Core.Path.{refl}
-use Prim.Native.Nat.{◌+◌}
 use Rattle.protobuf.proofs.Short.{short-number, middle_field}
 use Rattle.protobuf.proofs.read_any_field.Goals as goal
 

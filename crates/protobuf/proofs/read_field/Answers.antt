@@ -1,7 +1,6 @@
 -- `protobuf::read_field` meets its contract: a length-delimited field whose tag and length are a byte each is read here, any other by `read_any_field`.
 use native.Mathlib.Omega.{arith}
 use mathlib.Core.Path.{refl}
-use Prim.Native.Nat.{◌+◌}
 use Rattle.protobuf.proofs.Short.{short-field, no_field}
 use Rattle.protobuf.proofs.read_field.Goals as goal
 

@@ -1,4 +1,3 @@
-use Prim.Native.Nat.{◌-◌}
 use mathlib.Core.Path.{refl}
 use Rattle.rows.specs.StoreLaws.{within_more, within-not, within_all}
 use Rattle.rows.proofs.all_within.Goals as goal

@@ -1,8 +1,6 @@
-use Prim.Native.Nat.{◌-◌}
 use lib.ListN.{length}
 use native.Mathlib.Omega.{arith}
 use Rattle.rows.specs.BucketsLaws.{bucket_none, bucket_more, bucket_all}
-use borrow.Author.Rules.{rules}
 use Rattle.rows.proofs.bucket.Goals as goal
 
 pub loop-i-init : goal.loop-i-init

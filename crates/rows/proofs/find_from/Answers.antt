@@ -1,4 +1,3 @@
-use Prim.Native.Nat.{◌-◌}
 use mathlib.Core.Path.{refl, sym, ap, ◌∙◌}
 use Rattle.rows.specs.Ids.{same_bytes}
 use Rattle.rows.specs.Store.{id_at}

@@ -1,5 +1,4 @@
 use mathlib.Core.Path.{refl, sym, ◌∙◌}
-use mathlib.Core.Bool.{true}
 use lib.ListN.{length-set}
 use native.Mathlib.Omega.{arith}
 use Rattle.rows.specs.IdsLaws.{among_none}

@@ -1,4 +1,3 @@
-use Prim.Native.Nat.{◌-◌}
 use native.Mathlib.Omega.{arith}
 use Rattle.rows.specs.IdsLaws.{order-more, order-here, order-short, order-prefix}
 use Rattle.rows.proofs.precedes.Goals as goal

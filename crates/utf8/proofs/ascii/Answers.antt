@@ -1,5 +1,4 @@
 -- `utf8::ascii` meets its contract: as long as the joined bits are below 128, the bytes behind can be left out.
-use Prim.Native.Nat.{◌-◌}
 use native.Mathlib.Omega.{arith}
 use Rattle.utf8.proofs.Leave.{none_yet, one_more_lem, all}
 use Rattle.utf8.proofs.ascii.Goals as goal

@@ -1,5 +1,4 @@
 -- `utf8::past` meets its contract: a block of ASCII bytes can be left out.
-use Prim.Native.Nat.{◌-◌}
 use mathlib.Core.Path.{refl}
 use native.Mathlib.Omega.{arith}
 use Rattle.std.proofs.lemmas.Bool.{not_from_true}
