@@ -8,6 +8,6 @@ returns c =
     let a = c.args in
     record_put a.table.now _ _ _ (a.row * 20) _ _ _ a.r
     c.kind_code-code.ensures
-    c.put_triple-a.ensures
-    c.put_number-b.ensures
+    (c.put_triple-a.ensures.value, c.put_triple-a.ensures.table_after)
+    (c.put_number-b.ensures.value, c.put_number-b.ensures.table_after)
     c.put_places.ensures.table_after
