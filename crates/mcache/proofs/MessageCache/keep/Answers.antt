@@ -1,5 +1,5 @@
 -- `MessageCache::keep` meets its contract.
-use Rattle.std.proofs.Common.{ℕ, sym, refl, ◌∙◌, arith}
+use Rattle.std.proofs.Common.{sym, refl, ◌∙◌, arith}
 use Rattle.basis.specs.Dialect.{mode_of}
 use Rattle.admission.specs.Admission.{Span}
 use Rattle.admission.specs.TopicLaws.{counts-places, starts-within, sizes-within}

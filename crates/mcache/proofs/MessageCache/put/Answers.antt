@@ -1,4 +1,4 @@
-use Rattle.std.proofs.Common.{ℕ, sym, ◌∙◌}
+use Rattle.std.proofs.Common.{sym, ◌∙◌}
 use Rattle.ids.specs.IdLaws.{message-inside}
 use Rattle.mcache.proofs.Answers.{roomy, tested, put-done, puts_no, puts_as, plan_store, plan_malformed, plan_refused, plan_missing, plan_at_lem}
 use borrow.Author.Rules.{rules}

@@ -1,5 +1,5 @@
 -- `MessageCache::tell` meets its contract: each row in use is looked at once, and goes into its spot where it is told of.
-use Rattle.std.proofs.Common.{ℕ, ◌-◌, ◌<◌, length, sym, refl, ◌∙◌, arith}
+use Rattle.std.proofs.Common.{◌<◌, length, sym, refl, ◌∙◌, arith}
 use Rattle.mcache.specs.Calls.{gossip_list}
 use Rattle.mcache.specs.GuardLaws.{lie_rows}
 use Rattle.mcache.proofs.Answers.{roomy}
