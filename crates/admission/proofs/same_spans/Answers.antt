@@ -1,5 +1,4 @@
 -- `admission::same_spans` meets its contract.
-use Prim.Native.Nat.{◌-◌}
 use mathlib.Core.Path.{refl, sym, ◌∙◌}
 use native.Mathlib.Omega.{arith}
 use Rattle.admission.proofs.Turns.{spans_start, spans_size, spans_more, spans_all}

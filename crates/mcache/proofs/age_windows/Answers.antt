@@ -1,4 +1,4 @@
-use Rattle.std.proofs.Common.{◌-◌, refl, arith, length-set}
+use Rattle.std.proofs.Common.{refl, arith, length-set}
 use Rattle.mcache.proofs.Walks.{aging_more, aging_done}
 use Rattle.mcache.proofs.age_windows.Goals as goal
 

@@ -1,5 +1,5 @@
 -- `mcache::carries` meets its contract: the topic is among the parts from here on exactly where it is among all.
-use Rattle.std.proofs.Common.{◌-◌, sym, refl, ◌∙◌, arith}
+use Rattle.std.proofs.Common.{sym, refl, ◌∙◌, arith}
 use Rattle.mcache.proofs.Walks.{part-here, part_other, parts_none}
 use Rattle.mcache.proofs.carries.Goals as goal
 

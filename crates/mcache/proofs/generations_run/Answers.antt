@@ -1,4 +1,4 @@
-use Rattle.std.proofs.Common.{ℕ, ◌-◌, get_or, refl, ap, arith, rules}
+use Rattle.std.proofs.Common.{ℕ, get_or, refl, ap, arith, rules}
 use Rattle.rows.specs.RowsLaws.{place-lt}
 use Rattle.mcache.proofs.Walks.{runs-more, runs-not, runs-all}
 use Rattle.mcache.proofs.generations_run.Goals as goal

@@ -1,5 +1,5 @@
 -- `mcache::messages_fit` meets its contract.
-use Rattle.std.proofs.Common.{◌≡◌, ℕ, ◌-◌, true, false, refl, ◌∙◌, subst, arith}
+use Rattle.std.proofs.Common.{◌≡◌, ℕ, true, false, refl, ◌∙◌, subst, arith}
 use Rattle.mcache.specs.State.{table, gives_at, gives_in}
 use Rattle.mcache.proofs.Walks.{row_lies, gives_more, gives-not, gives_all, gives-long, gives-says}
 use Rattle.mcache.proofs.messages_fit.Goals as goal

@@ -1,4 +1,4 @@
-use Rattle.std.proofs.Common.{◌≡◌, ◌+◌, ◌-◌, refl, arith, length-set}
+use Rattle.std.proofs.Common.{◌≡◌, ◌+◌, refl, arith, length-set}
 use Rattle.mcache.proofs.Listing.{half_start, half_more, half_done}
 use Rattle.mcache.proofs.put_row.Goals as goal
 

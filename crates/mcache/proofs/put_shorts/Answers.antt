@@ -1,5 +1,5 @@
 -- `mcache::put_shorts` meets its contract.
-use Rattle.std.proofs.Common.{◌+◌, ◌-◌, refl, ◌∙◌, add-zero, arith, length-set}
+use Rattle.std.proofs.Common.{◌+◌, refl, ◌∙◌, add-zero, arith, length-set}
 use Rattle.mcache.proofs.Walks.{shorts-more, shorts-done}
 use Rattle.mcache.proofs.put_shorts.Goals as goal
 

@@ -1,4 +1,4 @@
-use Rattle.std.proofs.Common.{◌-◌, take, ◌∙◌, ap₂, arith}
+use Rattle.std.proofs.Common.{take, ◌∙◌, ap₂, arith}
 use Rattle.rows.specs.Ids.{precedes_bytes}
 use Rattle.rows.specs.Store.{id_at}
 use Rattle.mcache.specs.State.{message_id_size}

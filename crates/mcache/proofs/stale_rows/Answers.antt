@@ -1,4 +1,4 @@
-use Rattle.std.proofs.Common.{ℕ, ◌-◌, get_or, ap, ◌∙◌, arith}
+use Rattle.std.proofs.Common.{ℕ, get_or, ap, ◌∙◌, arith}
 use Rattle.mcache.proofs.Walks.{stale-more, stale-stays, stale-all}
 use Rattle.mcache.proofs.stale_rows.Goals as goal
 

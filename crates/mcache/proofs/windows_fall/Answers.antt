@@ -1,4 +1,4 @@
-use Rattle.std.proofs.Common.{ℕ, ◌-◌, get_or, refl, ap, arith}
+use Rattle.std.proofs.Common.{ℕ, get_or, refl, ap, arith}
 use Rattle.rows.specs.RowsLaws.{place-lt}
 use Rattle.mcache.proofs.Walks.{falls-more, falls-not, falls-all}
 use Rattle.mcache.proofs.windows_fall.Goals as goal

@@ -8,7 +8,7 @@ returns-then-topic-gt-MAX_TOPIC_SIZE c =
     told_as c.args.self
     c.args.store.now
     c.args.topic.now c.args.windows _ _
-    c.untold-then-topic-gt-MAX_TOPIC_SIZE.ensures (gossip_long c.args.self
+    (c.untold-then-topic-gt-MAX_TOPIC_SIZE.ensures.answer_value, (c.untold-then-topic-gt-MAX_TOPIC_SIZE.ensures.count_value, c.untold-then-topic-gt-MAX_TOPIC_SIZE.ensures.rows_value)) (gossip_long c.args.self
     c.args.store.now
     c.args.topic.now c.args.windows
     (sym c.in-Fine.is ∙ c.lent-lent.ensures) c.if-topic-gt-MAX_TOPIC_SIZE.true)
@@ -17,7 +17,7 @@ pub returns-in-BadStore : goal.returns-in-BadStore
 returns-in-BadStore c =
     told_as c.args.self c.args.store.now
     c.args.topic.now c.args.windows _ _
-    c.untold.ensures (gossip_store c.args.self
+    (c.untold.ensures.answer_value, (c.untold.ensures.count_value, c.untold.ensures.rows_value)) (gossip_store c.args.self
     c.args.store.now c.args.topic.now
     c.args.windows (sym c.in-BadStore.is ∙ c.lent-lent.ensures))
 
@@ -25,7 +25,7 @@ pub returns-in-Malformed : goal.returns-in-Malformed
 returns-in-Malformed c =
     told_as c.args.self c.args.store.now
     c.args.topic.now c.args.windows _ _
-    c.untold-in-Malformed.ensures (gossip_malformed c.args.self
+    (c.untold-in-Malformed.ensures.answer_value, (c.untold-in-Malformed.ensures.count_value, c.untold-in-Malformed.ensures.rows_value)) (gossip_malformed c.args.self
     c.args.store.now c.args.topic.now
     c.args.windows (sym c.in-Malformed.is ∙ c.lent-lent.ensures))
 

@@ -1,5 +1,5 @@
 -- `MessageCache::ids_fit` meets its contract.
-use Rattle.std.proofs.Common.{ℕ, sym, ◌∙◌, rules}
+use Rattle.std.proofs.Common.{sym, ◌∙◌, rules}
 use Rattle.mcache.proofs.Answers.{roomy, ids_short, ids-gives, ids-differ, rows_of}
 use borrow.Author.Rules.{rules}
 use Rattle.mcache.proofs.MessageCache.ids_fit.Goals as goal

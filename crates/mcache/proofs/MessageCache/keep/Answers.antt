@@ -1,5 +1,5 @@
 -- `MessageCache::keep` meets its contract.
-use Rattle.std.proofs.Common.{ℕ, sym, refl, ◌∙◌, arith}
+use Rattle.std.proofs.Common.{sym, refl, ◌∙◌, arith}
 use Rattle.basis.specs.Dialect.{mode_of}
 use Rattle.admission.specs.Admission.{Span}
 use Rattle.admission.specs.TopicLaws.{counts-places, starts-within, sizes-within}
@@ -65,7 +65,7 @@ returns-then-can_keep c =
     let ring = c.ring-ring in
     let a = c.args in
     under-new a.self a.store.now a.part.now a.id.now (rw ring.ensures at (sym can-keep.ensures ∙ if1.true))
-    find.result find.ensures if2.false _ _ c.enter-cache.ensures
+    find.result find.ensures if2.false _ _ (c.enter-cache.ensures.value, c.enter-cache.ensures.store_after)
 
 pub returns : goal.returns
 returns c =

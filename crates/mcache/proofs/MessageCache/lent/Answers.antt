@@ -1,6 +1,5 @@
 use Rattle.std.proofs.Common.{sym, ◌∙◌, arith}
 use Rattle.mcache.proofs.Answers.{lent_other, lent-part, lent_none, lent-long, lent-many, lent-unknown, lent-start, lent-count, lent_rows_lem, lent-fine}
-use borrow.Author.Tests.{not-true, not-false}
 use Rattle.mcache.proofs.MessageCache.lent.Goals as goal
 
 pub returns-then-store-max : goal.returns-then-store-max
@@ -27,19 +26,19 @@ pub returns-then-not-known_flags : goal.returns-then-not-known_flags
 returns-then-not-known_flags c =
     lent-unknown _ c.args.store.now c.if-store-max.false
     c.if-store-ne0.false c.if-history_len-eq0.false c.if-history_len-gt-MAX_HISTORY.false c.if-max-gt-MAX_MESSAGES.false
-    (sym c.known_flags.ensures ∙ not-true _ c.if-not-known_flags.true)
+    (sym c.known_flags.ensures ∙ c.if-not-known_flags.true)
 
 pub returns-then-max-self : goal.returns-then-max-self
 returns-then-max-self c =
     lent-start _ c.args.store.now c.if-store-max.false
     c.if-store-ne0.false c.if-history_len-eq0.false c.if-history_len-gt-MAX_HISTORY.false c.if-max-gt-MAX_MESSAGES.false
-    (sym c.known_flags.ensures ∙ not-false _ c.if-not-known_flags.false) c.if-max-self.true
+    (sym c.known_flags.ensures ∙ c.if-not-known_flags.false) c.if-max-self.true
 
 pub returns-then-max-self-2 : goal.returns-then-max-self-2
 returns-then-max-self-2 c =
     lent-count _ c.args.store.now c.if-store-max.false
     c.if-store-ne0.false c.if-history_len-eq0.false c.if-history_len-gt-MAX_HISTORY.false c.if-max-gt-MAX_MESSAGES.false
-    (sym c.known_flags.ensures ∙ not-false _ c.if-not-known_flags.false) c.if-max-self.false c.if-max-self-2.true
+    (sym c.known_flags.ensures ∙ c.if-not-known_flags.false) c.if-max-self.false c.if-max-self-2.true
 
 pub rows_fit-requires : goal.rows_fit-requires
 rows_fit-requires c =
@@ -57,12 +56,12 @@ pub returns-then-rows_fit : goal.returns-then-rows_fit
 returns-then-rows_fit c =
     lent-fine _ c.args.store.now c.if-store-max.false
     c.if-store-ne0.false c.if-history_len-eq0.false c.if-history_len-gt-MAX_HISTORY.false c.if-max-gt-MAX_MESSAGES.false
-    (sym c.known_flags.ensures ∙ not-false _ c.if-not-known_flags.false) c.if-max-self.false c.if-max-self-2.false
+    (sym c.known_flags.ensures ∙ c.if-not-known_flags.false) c.if-max-self.false c.if-max-self-2.false
     (sym c.rows_fit.ensures ∙ c.if-rows_fit.true)
 
 pub returns : goal.returns
 returns c =
     lent_rows_lem _ c.args.store.now c.if-store-max.false
     c.if-store-ne0.false c.if-history_len-eq0.false c.if-history_len-gt-MAX_HISTORY.false c.if-max-gt-MAX_MESSAGES.false
-    (sym c.known_flags.ensures ∙ not-false _ c.if-not-known_flags.false) c.if-max-self.false c.if-max-self-2.false
+    (sym c.known_flags.ensures ∙ c.if-not-known_flags.false) c.if-max-self.false c.if-max-self-2.false
     (sym c.rows_fit.ensures ∙ c.if-rows_fit.false)

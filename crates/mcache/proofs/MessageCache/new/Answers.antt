@@ -1,7 +1,6 @@
 -- `MessageCache::new` meets its contract.
 use Rattle.std.proofs.Common.{sym, ◌∙◌}
 use Rattle.mcache.proofs.Steps.{start_none, start-long, start-many, start-unknown, start_fits}
-use borrow.Author.Tests.{not-true, not-false}
 use Rattle.mcache.proofs.MessageCache.new.Goals as goal
 
 pub returns-then-history_len-eq0 : goal.returns-then-history_len-eq0
@@ -22,11 +21,11 @@ returns-then-max_messages-gt-MAX_MESSAGES c =
 pub returns-then-not-known_flags : goal.returns-then-not-known_flags
 returns-then-not-known_flags c =
     let r = start-unknown _ _ _ c.if-history_len-eq0.false c.if-history_len-gt-MAX_HISTORY.false c.if-max_messages-gt-MAX_MESSAGES.false
-    (sym c.known_flags.ensures ∙ not-true _ c.if-not-known_flags.true) in
+    (sym c.known_flags.ensures ∙ c.if-not-known_flags.true) in
     record { answer = c.refused-then-not-known_flags.ensures.answer_value ∙ r.0; cache = c.refused-then-not-known_flags.ensures.cache_value ∙ r.1 }
 
 pub returns : goal.returns
 returns c =
     let r = start_fits _ _ _ c.if-history_len-eq0.false c.if-history_len-gt-MAX_HISTORY.false c.if-max_messages-gt-MAX_MESSAGES.false
-    (sym c.known_flags.ensures ∙ not-false _ c.if-not-known_flags.false) in
+    (sym c.known_flags.ensures ∙ c.if-not-known_flags.false) in
     record { answer = r.0; cache = c.empty.ensures ∙ r.1 }

@@ -1,4 +1,4 @@
-use Rattle.std.proofs.Common.{ℕ, sym, ◌∙◌}
+use Rattle.std.proofs.Common.{sym, ◌∙◌}
 use Rattle.ids.specs.IdLaws.{message-inside}
 use Rattle.mcache.proofs.Answers.{roomy, tested, put-done, puts_no, puts_as, plan_store, plan_malformed, plan_refused, plan_missing, plan_at_lem}
 use borrow.Author.Rules.{rules}
@@ -74,4 +74,4 @@ returns-in-At c =
     put-done _ _ _ _ _ _ _ (puts_as a.self a.store.now _ _ _ _ _
     (plan_at_lem a.self a.store.now a.edition a.body.now a.index _ _ (sym c.in-Fine.is ∙ lent.ensures)
     Mode-of.ensures (sym c.in-Fine-c.is ∙ accept.ensures)
-    (sym c.in-At.is ∙ message_at_lem.ensures)) c.put_part.ensures)
+    (sym c.in-At.is ∙ message_at_lem.ensures)) (c.put_part.ensures.answer_value, (c.put_part.ensures.cache_value, c.put_part.ensures.store_after)))

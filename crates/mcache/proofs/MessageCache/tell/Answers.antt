@@ -1,5 +1,5 @@
 -- `MessageCache::tell` meets its contract: each row in use is looked at once, and goes into its spot where it is told of.
-use Rattle.std.proofs.Common.{ℕ, ◌-◌, ◌<◌, length, sym, refl, ◌∙◌, arith}
+use Rattle.std.proofs.Common.{◌<◌, length, sym, refl, ◌∙◌, arith}
 use Rattle.mcache.specs.Calls.{gossip_list}
 use Rattle.mcache.specs.GuardLaws.{lie_rows}
 use Rattle.mcache.proofs.Answers.{roomy}
@@ -47,9 +47,10 @@ loop-i-preserved c =
       c.loop-i-test.true,
       w.1,
     ) in
+    let k = rw c.is_told-there.ensures at c.tell_row-count.ensures in
     let r = gather-turn _ _ _ _ c.ring-ring.result c.loop-i.i c.place-p.result c.loop-i.count c.loop-i.rows c.loop-i-test.true
     c.place-p.ensures few
-    c.tell_row-count.result _ c.loop-i.invariant.1 c.loop-i.invariant.3 (rw c.is_told-there.ensures at c.tell_row-count.ensures) in
+    c.tell_row-count.result _ c.loop-i.invariant.1 c.loop-i.invariant.3 (k.value, k.rows_after) in
     (omega (arith, c.loop-i-test.true), r.0, r.1, r.2)
 
 pub returns-then-rows_lie : goal.returns-then-rows_lie
@@ -66,4 +67,4 @@ returns-then-rows_lie c =
 pub returns : goal.returns
 returns c =
     let a = c.args in tells_none a.self a.store.now a.topic.now a.windows _
-    (rw c.ring-ring.ensures at (sym c.rows_lie.ensures ∙ c.if-rows_lie.false)) c.untold.ensures
+    (rw c.ring-ring.ensures at (sym c.rows_lie.ensures ∙ c.if-rows_lie.false)) (c.untold.ensures.answer_value, (c.untold.ensures.count_value, c.untold.ensures.rows_value))

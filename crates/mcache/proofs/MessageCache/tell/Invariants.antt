@@ -1,5 +1,5 @@
 -- `MessageCache::tell` meets its contract: each row in use is looked at once, and goes into its spot where it is told of.
-use Rattle.std.proofs.Common.{◌≡◌, ℕ, ◌-◌, ◌≤◌, length, drop}
+use Rattle.std.proofs.Common.{[], ◌≡◌, ℕ, ◌-◌, ◌≤◌, length, drop}
 use Rattle.rows.specs.Rows.{rows_in}
 use Rattle.rows.specs.Store.{id_at}
 use Rattle.mcache.specs.State.{table, told, gather_into, message_id_size, message_limit}
