@@ -14,7 +14,6 @@ emit_varint-i-requires c =
 
 pub emit_varint-requires : goal.emit_varint-requires
 emit_varint-requires c =
-    let number = c.number-1 in
     let a = c.args in
     let pre = c.requires in
     let e = number_is a.how a.n _ _ a.number c.in-Present.is c.figure-value.ensures in
@@ -28,7 +27,6 @@ returns-in-Absent c =
 pub returns-in-Present : goal.returns-in-Present
 returns-in-Present c =
     let figure = c.figure-value in
-    let number = c.number-1 in
     let a = c.args in
     let e = number_is a.how a.n _ _ a.number c.in-Present.is figure.ensures in
     puts_same a.out.now a.at _ _ _ _ (sym e)

@@ -33,7 +33,6 @@ slice_bounds-emit_bytes-end c = (c.requires.1 _ _ c.in-Present.is).1
 
 pub emit_bytes-requires : goal.emit_bytes-requires
 emit_bytes-requires c =
-    let place = c.place-1 in
     let a = c.args in
     let pre = c.requires in
     let i = pre.1 _ _ c.in-Present.is in
@@ -48,7 +47,6 @@ returns-in-Absent c =
 pub returns-in-Present : goal.returns-in-Present
 returns-in-Present c =
     let emit-head = c.emit_head-i in
-    let place = c.place-1 in
     let a = c.args in
     let pre = c.requires in
     let i = pre.1 _ _ c.in-Present.is in

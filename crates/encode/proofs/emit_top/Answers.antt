@@ -42,7 +42,6 @@ returns-in-Nothing c =
 pub returns-in-Whole : goal.returns-in-Whole
 unfolding body_part
 returns-in-Whole c =
-    let enum-told2 = c.enum_told-in-Whole-1 in
     let a = c.args in
     puts_same a.out.now a.at _ _ _ _ ((ap (held_part Groups (canon Groups) a.n a.body.now) c.in-Whole.is) ∙ sym
     (ap (body_part Groups a.body.now a.n) c.in-Whole.is)) c.emit_held.ensures
@@ -50,7 +49,6 @@ returns-in-Whole c =
 pub returns-in-Anew : goal.returns-in-Anew
 unfolding body_part
 returns-in-Anew c =
-    let enum-told3 = c.enum_told-in-Anew-1 in
     let a = c.args in
     puts_same a.out.now a.at _ _ _ _ ((ap (held_part Groups (canon Groups) a.n a.body.now) c.in-Anew.is) ∙ sym
     (ap (body_part Groups a.body.now a.n) c.in-Anew.is)) c.emit_held-in-Anew.ensures

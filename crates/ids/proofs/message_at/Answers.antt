@@ -35,7 +35,6 @@ returns-then-is_it c =
 
 pub loop-at-smaller : goal.loop-at-smaller
 loop-at-smaller c =
-    let step = c.step-1 in
     let l = c.loop-at in
     let a = c.args in
     omega (
@@ -46,7 +45,6 @@ loop-at-smaller c =
 
 pub loop-at-preserved : goal.loop-at-preserved
 loop-at-preserved c =
-    let step = c.step-1 in
     let read-field = c.read_field-step in
     let l = c.loop-at in
     let a = c.args in

@@ -40,42 +40,36 @@ returns-then-out-total c =
 
 pub slice_bounds-put_bytes-count : goal.slice_bounds-put_bytes-count
 slice_bounds-put_bytes-count c =
-    let id2 = c.id-in-Parts-1 in
     let id-parts = c.id_parts-id in
     let a = c.args in
     (id-fits a.mode a.part.now _ _ _ _ (sym id-parts.ensures ∙ c.in-Parts.is)).from.0
 
 pub slice_bounds-put_bytes-start : goal.slice_bounds-put_bytes-start
 slice_bounds-put_bytes-start c =
-    let id2 = c.id-in-Parts-1 in
     let id-parts = c.id_parts-id in
     let a = c.args in
     (id-fits a.mode a.part.now _ _ _ _ (sym id-parts.ensures ∙ c.in-Parts.is)).from.0
 
 pub slice_bounds-put_bytes-end : goal.slice_bounds-put_bytes-end
 slice_bounds-put_bytes-end c =
-    let id2 = c.id-in-Parts-1 in
     let id-parts = c.id_parts-id in
     let a = c.args in
     (id-fits a.mode a.part.now _ _ _ _ (sym id-parts.ensures ∙ c.in-Parts.is)).from.1
 
 pub slice_bounds-put_bytes-count-in-Parts : goal.slice_bounds-put_bytes-count-in-Parts
 slice_bounds-put_bytes-count-in-Parts c =
-    let id2 = c.id-in-Parts-1 in
     let id-parts = c.id_parts-id in
     let a = c.args in
     (id-fits a.mode a.part.now _ _ _ _ (sym id-parts.ensures ∙ c.in-Parts.is)).seqno.0
 
 pub slice_bounds-put_bytes-start-in-Parts : goal.slice_bounds-put_bytes-start-in-Parts
 slice_bounds-put_bytes-start-in-Parts c =
-    let id2 = c.id-in-Parts-1 in
     let id-parts = c.id_parts-id in
     let a = c.args in
     (id-fits a.mode a.part.now _ _ _ _ (sym id-parts.ensures ∙ c.in-Parts.is)).seqno.0
 
 pub slice_bounds-put_bytes-end-in-Parts : goal.slice_bounds-put_bytes-end-in-Parts
 slice_bounds-put_bytes-end-in-Parts c =
-    let id2 = c.id-in-Parts-1 in
     let id-parts = c.id_parts-id in
     let a = c.args in
     (id-fits a.mode a.part.now _ _ _ _ (sym id-parts.ensures ∙ c.in-Parts.is)).seqno.1
@@ -109,7 +103,6 @@ returns-else-out-total c =
     let put-bytes2 = c.put_bytes-j in
     let put_bytes_lem = c.put_bytes-i in
     let if1 = c.if-out-total in
-    let id2 = c.id-in-Parts-1 in
     let id-parts = c.id_parts-id in
     let a = c.args in
     let e = sym id-parts.ensures ∙ c.in-Parts.is in

@@ -36,4 +36,4 @@ returns-in-At c =
     c.accept-c.ensures
     ∙ c.in-Fine.is) (sym
     c.message_at-m.ensures
-    ∙ c.in-At.is) c.put_id.ensures in record { value = h.0; out_after = h.1 }
+    ∙ c.in-At.is) (c.put_id.ensures.value, c.put_id.ensures.out_after) in record { value = h.0; out_after = h.1 }
