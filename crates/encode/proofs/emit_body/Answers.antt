@@ -1,20 +1,15 @@
 -- `encode::emit_body` meets its contract. The invariant: the rows that are left, written at the end of what was written, make all.
--- the field n of a body
 use Prim.Native.Nat.{ℕ, ◌-◌}
 use mathlib.Core.Path.{refl, sym, ap, ◌∙◌}
 use mathlib.Core.List.{List}
 use native.Mathlib.Omega.{arith}
-use Rattle.basis.specs.declared.Edition.{Edition}
-use Rattle.schema.specs.declared.Kind.TheVariants as kind
 use Rattle.schema.specs.Schema.{row_of, held_of}
 use Rattle.canon.specs.Canon.{body_part, canon_body}
 use Rattle.encode.specs.Puts.{puts_same, fits-same, going-same, going-none, going-fits, going-part}
 use Rattle.encode.proofs.Parts.{order-step, order-end, order-all}
 use Rattle.basis.specs.declared.Mode.TheVariants.{Groups}
+use Rattle.encode.proofs.emit_body.Invariants.{top}
 use Rattle.encode.proofs.emit_body.Goals as goal
-
-abbrev top : Edition → List ℕ → ℕ → List ℕ
-top e s n = body_part Groups s n (held_of (row_of (kind.Rpc e) n))
 
 pub loop-n-init : goal.loop-n-init
 unfolding canon_body

@@ -1,4 +1,5 @@
 -- `encode::emit_control` meets its contract: where the body has a control, a head and the controls as one.
+use mathlib.Core.List.{[]}
 use mathlib.Core.Path.{sym, ap, ◌∙◌}
 use mathlib.Core.Bool.{Bool, cond}
 use native.Mathlib.Omega.{arith}

@@ -1,9 +1,8 @@
 -- `encode::emit_entries` meets its contract. The loop's invariant: what is left along the fields, written at the end of what was written, makes
 -- all of it.
--- the entries m of one submessage
 use Prim.Native.Nat.{ℕ, ◌-◌, ◌≤◌}
 use mathlib.Core.Path.{refl, sym, ap, ◌∙◌}
-use mathlib.Core.List.{List}
+use mathlib.Core.List.{[], List}
 use mathlib.Core.Bool.{cond}
 use native.Mathlib.Omega.{arith}
 use lib.ListN.{length}
@@ -15,12 +14,9 @@ use Rattle.schema.specs.Schema.{row_of, held_of}
 use Rattle.canon.specs.Canon.{each_along, held_part, canon, entries_of}
 use Rattle.encode.specs.Puts.{going-all, going-none, going-fits, going-part}
 use Rattle.encode.proofs.Parts.{each-field}
-use Rattle.schema.specs.declared.Kind.{Kind}
 use Rattle.basis.specs.declared.Mode.TheVariants.{Groups}
+use Rattle.encode.proofs.emit_entries.Invariants.{entry}
 use Rattle.encode.proofs.emit_entries.Goals as goal
-
-abbrev entry : Kind → ℕ → List ℕ → List ℕ
-entry j m p = held_part Groups (canon Groups) m p (held_of (row_of j m))
 
 pub loop-i-init : goal.loop-i-init
 unfolding entries_of

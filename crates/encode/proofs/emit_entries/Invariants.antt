@@ -1,14 +1,20 @@
 -- `encode::emit_entries` meets its contract. The loop's invariant: what is left along the fields, written at the end of what was written, makes
 -- all of it.
--- the entries m of one submessage
-use Prim.Native.Nat.{◌-◌}
+use Prim.Native.Nat.{ℕ, ◌-◌}
 use mathlib.Core.Path.{◌≡◌}
+use mathlib.Core.List.{List}
 use lib.ListN.{length}
 use Rattle.protobuf.specs.Walk.{walk_at}
-use Rattle.canon.specs.Canon.{each_along, entries_of}
+use Rattle.schema.specs.declared.Kind.{Kind}
+use Rattle.schema.specs.Schema.{row_of, held_of}
+use Rattle.canon.specs.Canon.{each_along, held_part, canon, entries_of}
 use Rattle.encode.specs.Puts.{Going}
 use Rattle.basis.specs.declared.Mode.TheVariants.{Groups}
 use Rattle.encode.proofs.emit_entries.Given as goal
+
+-- the entries m of one submessage
+abbrev pub entry : Kind → ℕ → List ℕ → List ℕ
+entry j m p = held_part Groups (canon Groups) m p (held_of (row_of j m))
 
 abbrev pub invariant-loop-i : goal.invariant-loop-i
 invariant-loop-i l =
