@@ -13,21 +13,21 @@ slice_bounds-reply_body-end-in-1-to-4 c = prefix _ _ (search rules)
 
 pub reply_body-requires : goal.reply_body-requires
 reply_body-requires c =
-    let h = (front-small c.args.len _ _ (omega arith), search rules) in record { content_len_bound = h.0; in_bounds = h.1.0; in_bounds_2 = h.1.1 }
+    record { content_len_bound = front-small c.args.len _ _ (omega arith); in_bounds = search rules; in_bounds_2 = search rules }
 
 pub slice_bounds-reply_lists-end-in-10 : goal.slice_bounds-reply_lists-end-in-10
 slice_bounds-reply_lists-end-in-10 c = prefix _ _ (search rules)
 
 pub reply_lists-requires : goal.reply_lists-requires
 reply_lists-requires c =
-    let h = (front-small c.args.len _ _ (omega arith), search rules) in record { content_len_bound = h.0; in_bounds = h.1.0; in_bounds_2 = h.1.1.0; in_bounds_3 = h.1.1.1 }
+    record { content_len_bound = front-small c.args.len _ _ (omega arith); in_bounds = search rules; in_bounds_2 = search rules; in_bounds_3 = search rules }
 
 pub slice_bounds-reply_spoken-end-in-21-to-24 : goal.slice_bounds-reply_spoken-end-in-21-to-24
 slice_bounds-reply_spoken-end-in-21-to-24 c = prefix _ _ (search rules)
 
 pub reply_spoken-requires : goal.reply_spoken-requires
 reply_spoken-requires c =
-    let h = (front-small c.args.len _ _ (omega arith), search rules) in record { content_len_bound = h.0; in_bounds = h.1.0; in_bounds_2 = h.1.1 }
+    record { content_len_bound = front-small c.args.len _ _ (omega arith); in_bounds = search rules; in_bounds_2 = search rules }
 
 pub slice_bounds-reply_line-end-in_default : goal.slice_bounds-reply_line-end-in_default
 slice_bounds-reply_line-end-in_default c = prefix _ _ (search rules)

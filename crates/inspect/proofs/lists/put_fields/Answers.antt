@@ -7,7 +7,7 @@ use Rattle.inspect.proofs.lists.put_fields.Goals as goal
 pub loop-left-preserved : goal.loop-left-preserved
 loop-left-preserved c =
     let l = c.loop-left in
-    let t = fields-turn l.left l.m _ l.p _ _ l.w _ l.table _ c.loop-left-test.true c.word_if-start.ensures c.word_if-end.ensures c.put_three-w.ensures in
+    let t = fields-turn l.left l.m _ l.p _ _ l.w _ l.table _ c.loop-left-test.true c.word_if-start.ensures c.word_if-end.ensures (c.put_three-w.ensures.value, c.put_three-w.ensures.table_after) in
     (t.0 ∙ l.invariant.0, t.1 ∙ l.invariant.1, search rules, search rules, search rules, search rules)
 
 pub returns : goal.returns

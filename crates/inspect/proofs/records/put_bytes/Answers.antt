@@ -8,4 +8,4 @@ use Rattle.inspect.proofs.records.put_bytes.Goals as goal
 pub returns : goal.returns
 unfolding bytes_text
 returns c =
-    puts_then (wrote_puts (omega arith) c.put_word-i.ensures) (hex_puts c.args.s.now (omega arith) c.put_hex.ensures)
+    puts_then (wrote_puts (omega arith) c.put_word-i.ensures) (hex_puts c.args.s.now (omega arith) (c.put_hex.ensures.value, c.put_hex.ensures.out_after))
