@@ -14,21 +14,19 @@ offset_bounds-lens-p c =
 pub bounds-lens-p : goal.bounds-lens-p
 bounds-lens-p c =
     let a = c.args in
-    let pre = c.requires in
-    let q = pre.0 in
+    let q = c.requires.start_le_cap in
     let p = row-place a.ring a.row _ (q.0, q.1, q.2) c.if-row-ring.true
     c.place-p.ensures in omega arith
 
 pub overflow_cast-lens : goal.overflow_cast-lens
-overflow_cast-lens c = omega (arith, c.shared_slice_known-then-row-ring-1.given c.place-p.result)
+overflow_cast-lens c = omega (arith, c.type_inv.lens c.place-p.result)
 
 pub overflow_add-base : goal.overflow_add-base
 overflow_add-base c =
     let a = c.args in
-    let pre = c.requires in
-    let q = pre.0 in
+    let q = c.requires.start_le_cap in
     let p = row-place a.ring a.row _ (q.0, q.1, q.2) c.if-row-ring.true
-    c.place-p.ensures in omega (arith, c.shared_slice_known-then-row-ring-1.given c.place-p.result)
+    c.place-p.ensures in omega (arith, c.type_inv.lens c.place-p.result)
 
 pub returns-then-row-ring : goal.returns-then-row-ring
 returns-then-row-ring c =

@@ -56,11 +56,10 @@ pub loop-i-preserved : goal.loop-i-preserved
 loop-i-preserved c =
     let loop-test = c.loop-i-test in
     let m = c.loop-i in
-    let pre = c.requires in
-    let room = found-room _ _ _ _ _ _ _ _ _ _ m.invariant.0 _ loop-test.true pre.1.1.1 m.invariant.1 in
+    let room = found-room _ _ _ _ _ _ _ _ _ _ m.invariant.0 _ loop-test.true c.requires.n_in_bounds m.invariant.1 in
     let q = m.invariant.1 in (
-      found_turn _ _ _ _ _ _ _ _ _ _ m.invariant.0 loop-test.true pre.0 pre.1.0.2 room _
-          c.find_from-row.ensures _ _ c.add_message-k.ensures,
+      found_turn _ _ _ _ _ _ _ _ _ _ m.invariant.0 loop-test.true c.requires.sound c.requires.cap_le_max_messages.2 room _
+          c.find_from-row.ensures _ _ (c.add_message-k.ensures.value, c.add_message-k.ensures.to_after),
       omega arith,
     )
 

@@ -78,7 +78,7 @@ emit_head-j-requires c =
     let a = c.args in (
       omega arith,
       two_fits a.topic.now (ids_left a.n a.rows.now a.id_lens.now a.ids.now 0) a.at _
-          (advertisement-bytes a.topic.now (map (id_at 128 a.id_lens.now a.ids.now) (take a.n a.rows.now))) c.pre.1.1
+          (advertisement-bytes a.topic.now (map (id_at 128 a.id_lens.now a.ids.now) (take a.n a.rows.now))) c.requires.fits
           c.emit_ids-named.result
           c.emit_head.result
           c.emit_ids-named.ensures.ends
@@ -92,7 +92,7 @@ emit_head-k-requires c =
     let a = c.args in (
       omega arith,
       three-fits a.topic.now (ids_left a.n a.rows.now a.id_lens.now a.ids.now 0) a.at _
-          (advertisement-bytes a.topic.now (map (id_at 128 a.id_lens.now a.ids.now) (take a.n a.rows.now))) c.pre.1.1
+          (advertisement-bytes a.topic.now (map (id_at 128 a.id_lens.now a.ids.now) (take a.n a.rows.now))) c.requires.fits
           c.emit_ids-named.result
           c.emit_head.result
           c.emit_ids-named.ensures.ends
@@ -106,7 +106,7 @@ pub emit_bytes-l-requires : goal.emit_bytes-l-requires
 emit_bytes-l-requires c =
     let a = c.args in
     four-fits a.topic.now (ids_left a.n a.rows.now a.id_lens.now a.ids.now 0) a.at _
-    (advertisement-bytes a.topic.now (map (id_at 128 a.id_lens.now a.ids.now) (take a.n a.rows.now))) c.pre.1.1
+    (advertisement-bytes a.topic.now (map (id_at 128 a.id_lens.now a.ids.now) (take a.n a.rows.now))) c.requires.fits
     c.emit_ids-named.result
     c.emit_head.result c.emit_ids-named.ensures.ends
     c.emit_head.ensures.ends c.emit_head-2.result
@@ -117,10 +117,10 @@ emit_bytes-l-requires c =
 pub emit_ids-requires : goal.emit_ids-requires
 emit_ids-requires c =
     let a = c.args in record {
-      n_in_bounds = c.pre.0;
-      listed = c.pre.1.0;
+      n_in_bounds = c.requires.n_in_bounds;
+      listed = c.requires.listed;
       fits = five_fits a.topic.now (ids_left a.n a.rows.now a.id_lens.now a.ids.now 0) a.at _
-          (advertisement-bytes a.topic.now (map (id_at 128 a.id_lens.now a.ids.now) (take a.n a.rows.now))) c.pre.1.1
+          (advertisement-bytes a.topic.now (map (id_at 128 a.id_lens.now a.ids.now) (take a.n a.rows.now))) c.requires.fits
           c.emit_ids-named.result
           c.emit_head.result
           c.emit_ids-named.ensures.ends
@@ -136,7 +136,7 @@ pub returns : goal.returns
 returns c =
     let a = c.args in
     five_puts a.topic.now (ids_left a.n a.rows.now a.id_lens.now a.ids.now 0) a.at _
-    (advertisement-bytes a.topic.now (map (id_at 128 a.id_lens.now a.ids.now) (take a.n a.rows.now))) c.pre.1.1
+    (advertisement-bytes a.topic.now (map (id_at 128 a.id_lens.now a.ids.now) (take a.n a.rows.now))) c.requires.fits
     c.emit_ids-named.result
     c.emit_head.result
     c.emit_ids-named.ensures.ends

@@ -14,7 +14,7 @@ pub bounds-rows-i : goal.bounds-rows-i
 bounds-rows-i c = omega (arith, c.requires.n_in_bounds)
 
 pub overflow_cast-p : goal.overflow_cast-p
-overflow_cast-p c = omega (arith, c.shared_slice_known-in-loop-i-1.given c.loop-i.i)
+overflow_cast-p c = omega (arith, c.type_inv.rows c.loop-i.i)
 
 pub bounds-id_lens-p : goal.bounds-id_lens-p
 bounds-id_lens-p c =
@@ -70,7 +70,7 @@ loop-i-preserved c =
     let k = c.loop-i.invariant.2 in (
       omega arith,
       ids_more a.n a.rows.now a.id_lens.now a.ids.now
-          c.loop-i.i c.pre.1.0 c.pre.0
+          c.loop-i.i c.requires.listed c.requires.n_in_bounds
           c.loop-i-test.true a.out.now a.at _
           c.loop-i.out
           c.loop-i.end

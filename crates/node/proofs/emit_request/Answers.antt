@@ -9,19 +9,17 @@ use Rattle.node.proofs.emit_request.Goals as goal
 
 pub emit_parts-len-requires : goal.emit_parts-len-requires
 emit_parts-len-requires c =
-    let pre = c.requires in
     let a = c.args in
     let p = parts_in a.body.now a.table.now a.n in record {
-      parts = pre.0;
-      field_bound = (omega arith, ids_fit_lem a.at (repeated (bytes_field 1) p) _ (request-bytes p) pre.1);
+      parts = c.requires.parts;
+      field_bound = (omega arith, ids_fit_lem a.at (repeated (bytes_field 1) p) _ (request-bytes p) c.requires.fits);
     }
 
 pub emit_head-requires : goal.emit_head-requires
 emit_head-requires c =
     let a = c.args in
-    let pre = c.requires in
     let p = parts_in a.body.now a.table.now a.n in
-    (omega arith, entry-head-fits a.at (repeated (bytes_field 1) p) _ (request-bytes p) pre.1 _ _ _ c.emit_parts-len.ensures)
+    (omega arith, entry-head-fits a.at (repeated (bytes_field 1) p) _ (request-bytes p) c.requires.fits _ _ _ c.emit_parts-len.ensures)
 
 pub overflow_add-entry : goal.overflow_add-entry
 overflow_add-entry c =

@@ -1,7 +1,7 @@
 -- `not_declined` meets its contract: the ids in the IDONTWANTs of the second body, none where it is empty, and the parts
 -- that are not among them.
 use mathlib.Core.Path.{◌≡◌, refl, sym, ap, ◌∙◌}
-use mathlib.Core.List.{List, ◌∷◌}
+use mathlib.Core.List.{List, [], ◌∷◌}
 use Prim.Native.Nat.{ℕ}
 use native.Mathlib.Omega.{arith}
 use lib.ListN.{length}
@@ -21,11 +21,11 @@ none_declined mode (x ∷ s) t h = absurd (omega arith)
 pub returns-then-unwanted-eq0 : goal.returns-then-unwanted-eq0
 returns-then-unwanted-eq0 c =
     let q = c.parts_without.ensures in
-    let u = none_declined c.args.mode c.args.unwanted.now c.args.from.now c.if-unwanted-eq0.true
-    in let h = (
-      q.result_after ∙ ap (λ (l : List (List ℕ)). without l (parts_in c.args.body.now c.args.from.now c.args.n)) u,
-      q.1,
-    ) in record { result_after = h.0; parts_2 = h.1.0; upper_bound = h.1.1 }
+    let u = none_declined c.args.mode c.args.unwanted.now c.args.from.now c.if-unwanted-eq0.true in record {
+      result_after = q.result_after ∙ ap (λ (l : List (List ℕ)). without l (parts_in c.args.body.now c.args.from.now c.args.n)) u;
+      parts_2 = q.parts_3;
+      upper_bound = q.upper_bound;
+    }
 
 pub parts_at-m-requires : goal.parts_at-m-requires
 parts_at-m-requires c =
@@ -39,7 +39,8 @@ pub returns : goal.returns
 unfolding unwanted_in
 returns c =
     let q = c.parts_without-2.ensures in
-    let u = named-is refl (3 ∷ 5 ∷ 1 ∷ []) c.args.unwanted.now c.requires.unwanted_len_bound _ _ _ c.parts_at-m.ensures.result_after in let h = (
-      q.result_after ∙ ap (λ (l : List (List ℕ)). without l (parts_in c.args.body.now c.args.from.now c.args.n)) u,
-      q.1,
-    ) in record { result_after = h.0; parts_2 = h.1.0; upper_bound = h.1.1 }
+    let u = named-is refl (3 ∷ 5 ∷ 1 ∷ []) c.args.unwanted.now c.requires.unwanted_len_bound _ _ _ c.parts_at-m.ensures.result_after in record {
+      result_after = q.result_after ∙ ap (λ (l : List (List ℕ)). without l (parts_in c.args.body.now c.args.from.now c.args.n)) u;
+      parts_2 = q.parts_3;
+      upper_bound = q.upper_bound;
+    }

@@ -44,8 +44,7 @@ is_unseen-there-requires c = c.requires.sound
 pub add_where-k-requires : goal.add_where-k-requires
 add_where-k-requires c =
     let m = c.loop-i in
-    let pre = c.requires in
-    picked_room _ _ _ _ _ _ _ m.invariant.0 _ c.loop-i-test.true pre.1.1 m.invariant.1
+    picked_room _ _ _ _ _ _ _ m.invariant.0 _ c.loop-i-test.true c.requires.n_in_bounds m.invariant.1
 
 pub loop-i-preserved : goal.loop-i-preserved
 loop-i-preserved c =

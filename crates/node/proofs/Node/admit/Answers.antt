@@ -1,8 +1,8 @@
 -- `node::Node::admit` meets its contract: the node is tested, the body read, and the message at the index admitted.
 use mathlib.Core.Path.{sym, ◌∙◌}
 use Rattle.ids.specs.IdLaws.{message-inside}
+use native.Mathlib.Omega.{arith}
 use Rattle.node.proofs.Answers.{tested, admits-all, admits-no, admits_as, plan_faulty, plan_refused, plan_missing, plan_at_lem}
-use borrow.Author.Rules.{rules}
 use Rattle.node.proofs.Node.admit.Goals as goal
 
 pub slice_bounds-admit_part-count : goal.slice_bounds-admit_part-count
@@ -26,17 +26,15 @@ slice_bounds-admit_part-end c =
 pub admit_part-requires : goal.admit_part-requires
 admit_part-requires c =
     let a = c.args in
-    let g = c.good.0 in
     tested a.self a.seen_store.now a.cache_store.now
     (sym c.in-Fine.is
     ∙ c.lent-lent.ensures)
-    (let q = g.1.1.1.1.1.0.1.1.1.1.0 in search rules) (let q = g.1.1.1.1.1.0.1.1.1.1.1.0 in search rules)
-    (let q = g.1.1.1.1.1.1.0.1.1.1.1.1.1.1.0 in search rules) (let q = g.1.1.1.1.1.1.0.1.1.1.1.1.1.1.1.0 in search rules)
-    (let q = g.1.1.1.1.1.1.0.1.1.1.1.1.1.1.1.1.0 in search rules) (let q = g.1.1.1.1.1.1.0.1.1.1.1.1.1.1.1.1.1.0 in
-    search rules) (let q = g.1.1.1.1.1.1.0.1.1.1.1.1.1.1.1.1.1.1.0 in search rules)
-    (let q = g.1.1.1.1.1.1.0.1.1.1.1.1.1.1.1.1.1.1.1.0 in search rules)
-    (let q = g.1.1.1.1.1.1.0.1.1.1.1.1.1.1.1.1.1.1.1.1.0 in search rules)
-    (let q = g.1.1.1.1.1.1.0.1.1.1.1.1.1.1.1.1.1.1.1.1.1.0 in search rules)
+    (omega arith) (omega arith)
+    (omega arith) (omega arith)
+    (omega arith) (omega arith) (omega arith)
+    (omega arith)
+    (omega arith)
+    (omega arith)
 
 pub returns-in-Faulty : goal.returns-in-Faulty
 returns-in-Faulty c =
@@ -71,4 +69,4 @@ returns-in-At c =
     ∙ c.accept-c.ensures)
     (sym c.in-At.is
     ∙ c.message_at-m.ensures))
-    c.admit_part.ensures)
+    (c.admit_part.ensures.answer_value, (c.admit_part.ensures.node_value, (c.admit_part.ensures.seen_store_after, c.admit_part.ensures.cache_store_after))))

@@ -54,4 +54,4 @@ returns-else-at-self c =
     let a = c.args in
     let h = sym c.admit-a.ensures ∙ c.in-Fit.is in
     let is-mark = c.mark_of.ensures ∙ ap mark c.has_signature.ensures in let h = admits-formed _ a.part.now a.verified _ _ _ _ h _ is-mark c.form_id-n.result _ _ refl c.form_id-n.ensures a.self a.seen_store.now
-    a.cache_store.now a.at c.if-at-self.false c.insert.ensures in record { answer_value = h.0; node_value = h.1.0; seen_store_after = h.1.1.0; cache_store_after = h.1.1.1 }
+    a.cache_store.now a.at c.if-at-self.false (c.insert.ensures.answer_value, (c.insert.ensures.node_value, (c.insert.ensures.seen_store_after, c.insert.ensures.cache_store_after))) in record { answer_value = h.0; node_value = h.1.0; seen_store_after = h.1.1.0; cache_store_after = h.1.1.1 }

@@ -1,7 +1,7 @@
 -- `node::Node::advertise` meets its contract: the node is tested, then the topic, and then the ids are told.
 use mathlib.Core.Path.{sym, ◌∙◌}
+use native.Mathlib.Omega.{arith}
 use Rattle.node.proofs.Answers.{tested, advertise-faulty, advertise-long, advertise_told_lem}
-use borrow.Author.Rules.{rules}
 use Rattle.node.proofs.Node.advertise.Goals as goal
 
 pub returns-then-topic-gt-MAX_TOPIC_SIZE : goal.returns-then-topic-gt-MAX_TOPIC_SIZE
@@ -12,16 +12,15 @@ returns-then-topic-gt-MAX_TOPIC_SIZE c =
 
 pub announce-answer-requires : goal.announce-answer-requires
 announce-answer-requires c =
-    let a = c.args in let g = c.well_formed.0 in (
+    let a = c.args in (
       (tested a.self a.seen_store.now a.cache_store.now (sym c.in-Fine.is
-          ∙ c.lent-lent.ensures) (let q = g.1.1.1.1.1.0.1.1.1.1.0 in search rules)
-          (let q = g.1.1.1.1.1.0.1.1.1.1.1.0 in search rules) (let q = g.1.1.1.1.1.1.0.1.1.1.1.1.1.1.0 in search rules)
-          (let q = g.1.1.1.1.1.1.0.1.1.1.1.1.1.1.1.0 in search rules) (let q = g.1.1.1.1.1.1.0.1.1.1.1.1.1.1.1.1.0 in
-          search rules) (let q = g.1.1.1.1.1.1.0.1.1.1.1.1.1.1.1.1.1.0 in search rules)
-          (let q = g.1.1.1.1.1.1.0.1.1.1.1.1.1.1.1.1.1.1.0 in search rules)
-          (let q = g.1.1.1.1.1.1.0.1.1.1.1.1.1.1.1.1.1.1.1.0 in search rules)
-          (let q = g.1.1.1.1.1.1.0.1.1.1.1.1.1.1.1.1.1.1.1.1.0 in search rules)
-          (let q = g.1.1.1.1.1.1.0.1.1.1.1.1.1.1.1.1.1.1.1.1.1.0 in search rules)).kept,
+          ∙ c.lent-lent.ensures) (omega arith)
+          (omega arith) (omega arith)
+          (omega arith) (omega arith) (omega arith)
+          (omega arith)
+          (omega arith)
+          (omega arith)
+          (omega arith)).kept,
       c.if-topic-gt-MAX_TOPIC_SIZE.false,
     )
 
@@ -34,4 +33,4 @@ returns-else-topic-gt-MAX_TOPIC_SIZE c =
     let a = c.args in
     advertise_told_lem a.self a.seen_store.now a.cache_store.now a.topic.now a.windows a.out.now
     (sym c.in-Fine.is ∙ c.lent-lent.ensures)
-    c.if-topic-gt-MAX_TOPIC_SIZE.false _ _ c.announce-answer.ensures
+    c.if-topic-gt-MAX_TOPIC_SIZE.false _ _ (c.announce-answer.ensures.value, c.announce-answer.ensures.out_after)

@@ -10,30 +10,30 @@ returns-then-n-eq0 c =
 pub emit_advertisement-needed-requires : goal.emit_advertisement-needed-requires
 emit_advertisement-needed-requires c =
     let a = c.args in record {
-      n_in_bounds = told-room a.self.cache a.cache_store.now a.topic.now a.windows c.pre.0
+      n_in_bounds = told-room a.self.cache a.cache_store.now a.topic.now a.windows c.requires.0
           c.tell-told.result.count
-          c.tell-told.result.rows (tell_usable a.self.cache a.cache_store.now a.topic.now a.windows c.pre.0 _ c.tell-told.ensures).1.0 (tell_usable
-          a.self.cache a.cache_store.now a.topic.now a.windows c.pre.0 _
+          c.tell-told.result.rows (tell_usable a.self.cache a.cache_store.now a.topic.now a.windows c.requires.0 _ c.tell-told.ensures).1.0 (tell_usable
+          a.self.cache a.cache_store.now a.topic.now a.windows c.requires.0 _
           c.tell-told.ensures).1.1;
       listed = told-listed a.self.cache a.cache_store.now
-          a.topic.now a.windows c.pre.0 c.tell-told.result.count
-          c.tell-told.result.rows (tell_usable a.self.cache a.cache_store.now a.topic.now a.windows c.pre.0 _ c.tell-told.ensures).1.0 (tell_usable
-          a.self.cache a.cache_store.now a.topic.now a.windows c.pre.0 _
+          a.topic.now a.windows c.requires.0 c.tell-told.result.count
+          c.tell-told.result.rows (tell_usable a.self.cache a.cache_store.now a.topic.now a.windows c.requires.0 _ c.tell-told.ensures).1.0 (tell_usable
+          a.self.cache a.cache_store.now a.topic.now a.windows c.requires.0 _
           c.tell-told.ensures).1.1;
-      fits = told-fits a.self.cache a.cache_store.now a.topic.now a.windows c.pre.0 c.tell-told.result.count
-          c.tell-told.result.rows (tell_usable a.self.cache a.cache_store.now a.topic.now a.windows c.pre.0 _ c.tell-told.ensures).1.0 (tell_usable
-          a.self.cache a.cache_store.now a.topic.now a.windows c.pre.0 _
-          c.tell-told.ensures).1.1 c.pre.1;
+      fits = told-fits a.self.cache a.cache_store.now a.topic.now a.windows c.requires.0 c.tell-told.result.count
+          c.tell-told.result.rows (tell_usable a.self.cache a.cache_store.now a.topic.now a.windows c.requires.0 _ c.tell-told.ensures).1.0 (tell_usable
+          a.self.cache a.cache_store.now a.topic.now a.windows c.requires.0 _
+          c.tell-told.ensures).1.1 c.requires.1;
     }
 
 pub returns-then-out-needed : goal.returns-then-out-needed
 returns-then-out-needed c =
-    let a = c.args in let h = tell_short a.self a.cache_store.now a.topic.now a.windows c.pre.0
+    let a = c.args in let h = tell_short a.self a.cache_store.now a.topic.now a.windows c.requires.0
     c.tell-told.result.count
     c.tell-told.result.rows (tell_usable a.self.cache
-    a.cache_store.now a.topic.now a.windows c.pre.0 _
+    a.cache_store.now a.topic.now a.windows c.requires.0 _
     c.tell-told.ensures).1.0 (tell_usable a.self.cache
-    a.cache_store.now a.topic.now a.windows c.pre.0 _
+    a.cache_store.now a.topic.now a.windows c.requires.0 _
     c.tell-told.ensures).1.1 a.out.now
     c.if-n-eq0.false _ _
     c.emit_advertisement-needed.result c.emit_advertisement-needed.ensures c.if-out-needed.true in record { value = h.0; out_after = h.1 }
@@ -41,36 +41,36 @@ returns-then-out-needed c =
 pub emit_advertisement-requires : goal.emit_advertisement-requires
 emit_advertisement-requires c =
     let a = c.args in record {
-      n_in_bounds = told-room a.self.cache a.cache_store.now a.topic.now a.windows c.pre.0
+      n_in_bounds = told-room a.self.cache a.cache_store.now a.topic.now a.windows c.requires.0
           c.tell-told.result.count
           c.tell-told.result.rows
-          (tell_usable a.self.cache a.cache_store.now a.topic.now a.windows c.pre.0 _
+          (tell_usable a.self.cache a.cache_store.now a.topic.now a.windows c.requires.0 _
           c.tell-told.ensures).1.0
-          (tell_usable a.self.cache a.cache_store.now a.topic.now a.windows c.pre.0 _
+          (tell_usable a.self.cache a.cache_store.now a.topic.now a.windows c.requires.0 _
           c.tell-told.ensures).1.1;
-      listed = told-listed a.self.cache a.cache_store.now a.topic.now a.windows c.pre.0
+      listed = told-listed a.self.cache a.cache_store.now a.topic.now a.windows c.requires.0
           c.tell-told.result.count
           c.tell-told.result.rows
-          (tell_usable a.self.cache a.cache_store.now a.topic.now a.windows c.pre.0 _
+          (tell_usable a.self.cache a.cache_store.now a.topic.now a.windows c.requires.0 _
           c.tell-told.ensures).1.0
-          (tell_usable a.self.cache a.cache_store.now a.topic.now a.windows c.pre.0 _
+          (tell_usable a.self.cache a.cache_store.now a.topic.now a.windows c.requires.0 _
           c.tell-told.ensures).1.1;
-      fits = told-fits a.self.cache a.cache_store.now a.topic.now a.windows c.pre.0
+      fits = told-fits a.self.cache a.cache_store.now a.topic.now a.windows c.requires.0
           c.tell-told.result.count
           c.tell-told.result.rows
-          (tell_usable a.self.cache a.cache_store.now a.topic.now a.windows c.pre.0 _
+          (tell_usable a.self.cache a.cache_store.now a.topic.now a.windows c.requires.0 _
           c.tell-told.ensures).1.0
-          (tell_usable a.self.cache a.cache_store.now a.topic.now a.windows c.pre.0 _
+          (tell_usable a.self.cache a.cache_store.now a.topic.now a.windows c.requires.0 _
           c.tell-told.ensures).1.1
-          c.pre.1;
+          c.requires.1;
     }
 
 pub returns : goal.returns
 returns c =
-    let a = c.args in let h = tell_put a.self a.cache_store.now a.topic.now a.windows c.pre.0
+    let a = c.args in let h = tell_put a.self a.cache_store.now a.topic.now a.windows c.requires.0
     c.tell-told.result.count
-    c.tell-told.result.rows (tell_usable a.self.cache a.cache_store.now a.topic.now a.windows c.pre.0 _
-    c.tell-told.ensures).1.0 (tell_usable a.self.cache a.cache_store.now a.topic.now a.windows c.pre.0 _
+    c.tell-told.result.rows (tell_usable a.self.cache a.cache_store.now a.topic.now a.windows c.requires.0 _
+    c.tell-told.ensures).1.0 (tell_usable a.self.cache a.cache_store.now a.topic.now a.windows c.requires.0 _
     c.tell-told.ensures).1.1 a.out.now
     c.if-n-eq0.false _ _ c.emit_advertisement-needed.result
     c.emit_advertisement-needed.ensures

@@ -1,10 +1,10 @@
 -- `ask` meets its contract: the lent node and its stores, the body, and then the request.
 use Prim.Native.Nat.{ℕ}
 use mathlib.Core.Path.{refl, sym, ◌∙◌}
-use borrow.Author.Rules.{length_unmapped}
 use Rattle.basis.specs.Dialect.{spoken}
 use Rattle.schema.specs.AcceptLaws.{accept_small}
 use Rattle.node.specs.PartsLaws.{path-accepted}
+use native.Mathlib.Omega.{arith}
 use Rattle.node.proofs.Answers.{tested}
 use Rattle.node.proofs.Asking.{few_as, asks-faulty, asks-refused, asks-done}
 use Rattle.node.proofs.Node.ask.Goals as goal
@@ -12,18 +12,17 @@ use Rattle.node.proofs.Node.ask.Goals as goal
 pub request_for-answer-requires : goal.request_for-answer-requires
 request_for-answer-requires c =
     let a = c.args in
-    let g = c.well_formed.0 in
     let r = tested a.self a.seen_store.now a.cache_store.now (sym c.in-Fine.is ∙ c.lent-lent.ensures)
-    (length_unmapped ℕ a.self.seen.expiry 256 g.1.1.1.1.1.0.1.1.1.1.0.1.0.1)
-    (length_unmapped ℕ a.self.seen.len 256 g.1.1.1.1.1.0.1.1.1.1.1.0.1.0.1)
-    (length_unmapped ℕ a.self.cache.generation 64 g.1.1.1.1.1.1.0.1.1.1.1.1.1.1.0.1.0.1)
-    (length_unmapped ℕ a.self.cache.window 64 g.1.1.1.1.1.1.0.1.1.1.1.1.1.1.1.0.1.0.1)
-    (length_unmapped ℕ a.self.cache.len 64 g.1.1.1.1.1.1.0.1.1.1.1.1.1.1.1.1.0.1.0.1)
-    (length_unmapped ℕ a.self.cache.id_len 64 g.1.1.1.1.1.1.0.1.1.1.1.1.1.1.1.1.1.0.1.0.1)
-    (length_unmapped ℕ a.self.cache.ids 8192 g.1.1.1.1.1.1.0.1.1.1.1.1.1.1.1.1.1.1.0.1.0.1)
-    (length_unmapped ℕ a.self.cache.topic_count 64 g.1.1.1.1.1.1.0.1.1.1.1.1.1.1.1.1.1.1.1.0.1.0.1)
-    (length_unmapped ℕ a.self.cache.topic_start 256 g.1.1.1.1.1.1.0.1.1.1.1.1.1.1.1.1.1.1.1.1.0.1.0.1)
-    (length_unmapped ℕ a.self.cache.topic_len 256 g.1.1.1.1.1.1.0.1.1.1.1.1.1.1.1.1.1.1.1.1.1.0.1.0.1) in
+    (omega arith)
+    (omega arith)
+    (omega arith)
+    (omega arith)
+    (omega arith)
+    (omega arith)
+    (omega arith)
+    (omega arith)
+    (omega arith)
+    (omega arith) in
     let e = sym c.accept-c.ensures ∙ c.in-Fine-c.is in
     let d = spoken c.mode_of-mode.result a.edition in record {
       sound = r.rows;

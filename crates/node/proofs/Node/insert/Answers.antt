@@ -27,9 +27,9 @@ returns c =
     let holds = c.holds in
     let clean = c.clean-seen in
     let a = c.args in
-    let pre = c.requires in let h = admits-new a.self a.seen_store.now a.cache_store.now a.at clean.result clean.ensures a.part.now
-    a.key.now pre.1.2 holds.result holds.ensures if1.false expiry-of.result expiry-of.ensures enter.result _
-    (swept_enters a.self a.seen_store.now a.cache_store.now a.at clean.result clean.ensures pre.0
-    a.key.now pre.1.1 _ _ _ enter.ensures) keep.result.cache _
-    (keeps-under a.self.cache a.cache_store.now a.part.now a.key.now pre.0.kept pre.1.0 pre.1.2
-    pre.1.1 _ _ keep.ensures) c.later-2.result c.later-2.ensures in record { answer_value = h.0; node_value = h.1.0; seen_store_after = h.1.1.0; cache_store_after = h.1.1.1 }
+    let h = admits-new a.self a.seen_store.now a.cache_store.now a.at clean.result clean.ensures a.part.now
+    a.key.now c.requires.part_len_bound.2 holds.result holds.ensures if1.false expiry-of.result expiry-of.ensures enter.result _
+    (swept_enters a.self a.seen_store.now a.cache_store.now a.at clean.result clean.ensures c.requires.ready
+    a.key.now c.requires.part_len_bound.1 _ _ _ enter.ensures) keep.result.cache _
+    (keeps-under a.self.cache a.cache_store.now a.part.now a.key.now c.requires.ready.kept c.requires.part_len_bound.0 c.requires.part_len_bound.2
+    c.requires.part_len_bound.1 _ _ keep.ensures) c.later-2.result c.later-2.ensures in record { answer_value = h.0; node_value = h.1.0; seen_store_after = h.1.1.0; cache_store_after = h.1.1.1 }

@@ -2,14 +2,13 @@
 -- them, and those that fit written.
 use Prim.Native.Nat.{ℕ}
 use mathlib.Core.Path.{sym}
-use mathlib.Core.List.{◌∷◌}
+use mathlib.Core.List.{[], ◌∷◌}
 use native.Mathlib.Omega.{arith}
 use Rattle.mcache.specs.StateLaws.{kept-sound}
 use Rattle.node.specs.PartsLaws.{parts_none, parts-fewer}
 use Rattle.node.specs.AskLaws.{reply-fits}
 use Rattle.node.proofs.Asking.{few_as, named-room, named-few, first-is}
 use Rattle.node.proofs.Serving.{kept-size, rest-is, messages_are, reply-none, reply-short, reply-put}
-use borrow.Author.Rules.{length_unmapped}
 use Rattle.node.proofs.Node.reply_to.Goals as goal
 
 -- those written are at most those cached, which are at most those that remain, and these at most those named
@@ -36,15 +35,15 @@ not_declined-r-requires c =
 
 pub slice_bounds-cached-end : goal.slice_bounds-cached-end
 slice_bounds-cached-end c =
-    sym (length_unmapped ℕ c.args.self.cache.len 64 c.well_formed.0.1.1.1.1.1.1.0.1.1.1.1.1.1.1.1.1.0.1.0.1)
+    omega arith
 
 pub slice_bounds-cached-end-2 : goal.slice_bounds-cached-end-2
 slice_bounds-cached-end-2 c =
-    sym (length_unmapped ℕ c.args.self.cache.id_len 64 c.well_formed.0.1.1.1.1.1.1.0.1.1.1.1.1.1.1.1.1.1.0.1.0.1)
+    omega arith
 
 pub slice_bounds-cached-end-3 : goal.slice_bounds-cached-end-3
 slice_bounds-cached-end-3 c =
-    sym (length_unmapped ℕ c.args.self.cache.ids 8192 c.well_formed.0.1.1.1.1.1.1.0.1.1.1.1.1.1.1.1.1.1.1.0.1.0.1)
+    omega arith
 
 pub cached-m-requires : goal.cached-m-requires
 cached-m-requires c =
@@ -53,10 +52,12 @@ cached-m-requires c =
     let m = c.parts_at-n.ensures.parts_2.room in
     let n = c.first_mentions-k.ensures.upper_bound in
     let o = c.not_declined-r.ensures.upper_bound in
-    rw c.ring-ring.ensures (
-      kept-sound a.self.cache a.cache_store.now k,
-      ((k.rows.few, k.rows.lengths, k.short), (c.not_declined-r.ensures.parts_2, omega arith)),
-    )
+    rw c.ring-ring.ensures (record {
+      sound = kept-sound a.self.cache a.cache_store.now k;
+      cap_le_max_messages = (k.rows.few, k.rows.lengths, k.short);
+      parts = c.not_declined-r.ensures.parts_2;
+      n_in_bounds = omega arith;
+    })
 
 pub returns-then-m-eq0 : goal.returns-then-m-eq0
 returns-then-m-eq0 c =

@@ -1,9 +1,8 @@
 -- `request_for` meets its contract: the ids that the body names, each once, those that are not seen, and the request for them measured and written.
 use Prim.Native.Nat.{ℕ}
 use mathlib.Core.Path.{sym}
-use mathlib.Core.List.{◌∷◌}
+use mathlib.Core.List.{[], ◌∷◌}
 use native.Mathlib.Omega.{arith}
-use borrow.Author.Rules.{length_unmapped}
 use Rattle.node.specs.PartsLaws.{parts_none}
 use Rattle.node.specs.AskLaws.{request-fits}
 use Rattle.node.proofs.Asking.{named-room, first-is, first-few, ask-none, ask-short, ask-put}
@@ -21,9 +20,7 @@ parts_at-n-requires c =
 
 pub slice_bounds-unseen-end : goal.slice_bounds-unseen-end
 slice_bounds-unseen-end c =
-    sym (length_unmapped ℕ
-    c.args.self.seen.len
-    256 c.well_formed.0.1.1.1.1.1.0.1.1.1.1.1.0.1.0.1)
+    omega arith
 
 pub unseen-m-requires : goal.unseen-m-requires
 unseen-m-requires c =

@@ -1,9 +1,9 @@
 -- `serve` meets its contract: the lent node and its stores, the body, and then the second body and the reply.
 use Prim.Native.Nat.{ℕ}
 use mathlib.Core.Path.{refl, sym, ◌∙◌}
-use borrow.Author.Rules.{length_unmapped}
 use Rattle.basis.specs.Dialect.{spoken}
 use Rattle.node.specs.PartsLaws.{path-accepted}
+use native.Mathlib.Omega.{arith}
 use Rattle.node.proofs.Answers.{tested}
 use Rattle.node.proofs.Asking.{few_as}
 use Rattle.node.proofs.Serving.{serves-faulty, serves-refused, serves-done}
@@ -14,19 +14,18 @@ serve_taken-answer-requires c =
     let Mode-of = c.mode_of-mode in
     let lent = c.lent-lent in
     let a = c.args in
-    let g = c.well_formed.0 in
     let r = tested a.self a.seen_store.now a.cache_store.now
     (sym c.in-Fine.is ∙ lent.ensures)
-    (length_unmapped ℕ a.self.seen.expiry 256 g.1.1.1.1.1.0.1.1.1.1.0.1.0.1)
-    (length_unmapped ℕ a.self.seen.len 256 g.1.1.1.1.1.0.1.1.1.1.1.0.1.0.1)
-    (length_unmapped ℕ a.self.cache.generation 64 g.1.1.1.1.1.1.0.1.1.1.1.1.1.1.0.1.0.1)
-    (length_unmapped ℕ a.self.cache.window 64 g.1.1.1.1.1.1.0.1.1.1.1.1.1.1.1.0.1.0.1)
-    (length_unmapped ℕ a.self.cache.len 64 g.1.1.1.1.1.1.0.1.1.1.1.1.1.1.1.1.0.1.0.1)
-    (length_unmapped ℕ a.self.cache.id_len 64 g.1.1.1.1.1.1.0.1.1.1.1.1.1.1.1.1.1.0.1.0.1)
-    (length_unmapped ℕ a.self.cache.ids 8192 g.1.1.1.1.1.1.0.1.1.1.1.1.1.1.1.1.1.1.0.1.0.1)
-    (length_unmapped ℕ a.self.cache.topic_count 64 g.1.1.1.1.1.1.0.1.1.1.1.1.1.1.1.1.1.1.1.0.1.0.1)
-    (length_unmapped ℕ a.self.cache.topic_start 256 g.1.1.1.1.1.1.0.1.1.1.1.1.1.1.1.1.1.1.1.1.0.1.0.1)
-    (length_unmapped ℕ a.self.cache.topic_len 256 g.1.1.1.1.1.1.0.1.1.1.1.1.1.1.1.1.1.1.1.1.1.0.1.0.1) in
+    (omega arith)
+    (omega arith)
+    (omega arith)
+    (omega arith)
+    (omega arith)
+    (omega arith)
+    (omega arith)
+    (omega arith)
+    (omega arith)
+    (omega arith) in
     let e = sym c.accept-tested.ensures ∙ c.in-Fine-tested.is in record {
       usable = r.kept;
       body_len_bound = few_as Mode-of.ensures _ a.body.now (path-accepted (spoken Mode-of.result a.edition) a.body.now e).1;
@@ -49,10 +48,9 @@ returns-in-Refused c =
 pub returns-in-Fine-tested : goal.returns-in-Fine-tested
 returns-in-Fine-tested c =
     let Mode-of = c.mode_of-mode in
-    let enum_told = c.enum_told-1 in
     let lent = c.lent-lent in
     let a = c.args in
     let r = serves-done a.self a.seen_store.now a.cache_store.now a.edition a.body.now a.unwanted.now a.out.now _
     lent.ensures c.in-Fine.is Mode-of.ensures _ c.accept-tested.ensures
-    c.in-Fine-tested.is _ _ c.serve_taken-answer.ensures in
+    c.in-Fine-tested.is _ _ (c.serve_taken-answer.ensures.value, c.serve_taken-answer.ensures.out_after) in
     record { answer = r.0; node = refl; buffer = r.1 }

@@ -18,4 +18,4 @@ returns-in-Refused c =
 
 pub returns-in-Fine : goal.returns-in-Fine
 returns-in-Fine c =
-    let a = c.args in let h = tried_done _ _ a.unwanted.now a.out.now c.mode_of-mode.ensures _ c.accept-c.ensures c.in-Fine.is _ _ c.reply_to.ensures in record { value = h.0; out_after = h.1 }
+    let a = c.args in let h = tried_done _ _ a.unwanted.now a.out.now c.mode_of-mode.ensures _ c.accept-c.ensures c.in-Fine.is _ _ (c.reply_to.ensures.value, c.reply_to.ensures.out_after) in record { value = h.0; out_after = h.1 }

@@ -23,11 +23,10 @@ pub emit_head-end-requires : goal.emit_head-end-requires
 emit_head-end-requires c =
     let l = c.loop-i in
     let a = c.args in
-    let pre = c.requires in
     let x = tag a.field 2 ++ uvarint (get_or a.table.now (l.i * 2 + 1) 0 - get_or a.table.now (l.i * 2) 0) in (
-      pre.1.0,
+      c.requires.field_bound.0,
       going-fits _ _ _ _ _ _ l.invariant.1 x _
-          (write_turn a.field a.s.now a.table.now a.n l.i pre.0 c.loop-i-test.true),
+          (write_turn a.field a.s.now a.table.now a.n l.i c.requires.parts c.loop-i-test.true),
     )
 
 pub slice_bounds-emit_bytes-count : goal.slice_bounds-emit_bytes-count
@@ -44,9 +43,8 @@ emit_bytes-end-requires c =
     let loop-test = c.loop-i-test in
     let l = c.loop-i in
     let a = c.args in
-    let pre = c.requires in
     let g = going-part _ _ _ _ _ _ l.invariant.1 _ _
-    (write_turn a.field a.s.now a.table.now a.n l.i pre.0 loop-test.true) _ _
+    (write_turn a.field a.s.now a.table.now a.n l.i c.requires.parts loop-test.true) _ _
     c.emit_head-end.ensures in
     going-fits _ _ _ _ _ _ g (part_at a.s.now a.table.now l.i) _ refl
 

@@ -41,10 +41,9 @@ returns-then-left-size c =
     let loop-test = c.loop-i-test in
     let l = c.loop-i in
     let a = c.args in
-    let pre = c.requires in
-    let z = field-size a.field a.s.now a.table.now a.n l.i pre.0 loop-test.true _ _
+    let z = field-size a.field a.s.now a.table.now a.n l.i c.requires.parts loop-test.true _ _
     c.uvarint_len.ensures c.uvarint_len-in-loop-i.ensures in record {
-      value = fit-stop a.field a.s.now a.table.now a.n l.i pre.0 loop-test.true a.room l.left _ z l.invariant.1
+      value = fit-stop a.field a.s.now a.table.now a.n l.i c.requires.parts loop-test.true a.room l.left _ z l.invariant.1
           c.if-left-size.true;
       upper_bound = l.invariant.0;
     }
@@ -54,11 +53,10 @@ loop-i-preserved c =
     let loop-test = c.loop-i-test in
     let l = c.loop-i in
     let a = c.args in
-    let pre = c.requires in
-    let z = field-size a.field a.s.now a.table.now a.n l.i pre.0 loop-test.true _ _
+    let z = field-size a.field a.s.now a.table.now a.n l.i c.requires.parts loop-test.true _ _
     c.uvarint_len.ensures c.uvarint_len-in-loop-i.ensures in (
       omega arith,
-      fit-turn a.field a.s.now a.table.now a.n l.i pre.0 loop-test.true a.room l.left _ z
+      fit-turn a.field a.s.now a.table.now a.n l.i c.requires.parts loop-test.true a.room l.left _ z
           l.invariant.1 c.if-left-size.false,
     )
 
