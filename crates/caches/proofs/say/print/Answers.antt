@@ -1,21 +1,6 @@
--- src/say.rt:12:9
 use Rattle.lines.specs.Laws.{prefix}
 use Rattle.caches.proofs.Buffers.{after-set}
 use Rattle.caches.proofs.say.print.Goals as goal
-
--- src/say.rt:13:19
-
--- src/say.rt:14:33
-
--- src/say.rt:14:33
-
--- src/say.rt:14:9
-
--- src/say.rt:14:9
-
--- src/say.rt:14:9
-
--- src/say.rt:10:1
 
 pub slice_bounds-write_all-end : goal.slice_bounds-write_all-end
 slice_bounds-write_all-end c = after-set c.args.out.now c.args.k 10 c.if-k-out.true
