@@ -1,4 +1,4 @@
-//! Finds the archive, libpradulins.a: in PRADULINS_LIB_DIR, or where `tools/archive pradulins` writes it. It is for x86-64 Linux. Where there is none, or
+//! Finds the archive, libpradulins.a: in PRADULINS_LIB_DIR, or where `tools/build pradulins` writes it. It is for x86-64 Linux. Where there is none, or
 //! one of an earlier version, the crate can be checked and its unit tests run, but no program can be linked.
 
 use std::path::PathBuf;
@@ -30,8 +30,8 @@ fn main() {
                 println!("cargo:rustc-link-lib=static=pradulins");
                 return;
             }
-            Ok(_) => format!("{}{from} is an older one, which this crate cannot use: make it anew by `tools/archive pradulins`", archive.display()),
-            Err(_) => format!("no {}{from}: make it by `tools/archive pradulins`, or name its folder in PRADULINS_LIB_DIR", archive.display()),
+            Ok(_) => format!("{}{from} is an older one, which this crate cannot use: make it anew by `tools/build pradulins`", archive.display()),
+            Err(_) => format!("no {}{from}: make it by `tools/build pradulins`, or name its folder in PRADULINS_LIB_DIR", archive.display()),
         }
     };
     println!("cargo:rustc-cfg=no_archive");

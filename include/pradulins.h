@@ -1,6 +1,6 @@
 /*
  * Pradulins: a gossip node for gateways, and the reading and writing of gossipsub bodies, as C programs link them. The archive is made by
- * `tools/archive pradulins` (target/staticlib/libpradulins.a, x86-64 Linux).
+ * `tools/build pradulins` (target/staticlib/libpradulins.a, x86-64 Linux).
  *
  * Every call but those of "the archive", below, returns 0 or the number of a refusal (PRADULINS_..., below); where it is lent `values`, it hands numbers out in
  * them, from the first on: what it did, or what stands beside the refusal. A refusal 1 to 7 of a body also says where in the body it stands, from values[4] on

@@ -3,7 +3,7 @@
 
     oracle/compare_admission.py BINARY [--seed N] [--count N]
 
-BINARY is target/bin/states, after `rt check states`. The messages (admissions.py) are senders of every sort with keys of
+BINARY is target/bin/states, after `tools/build states`. The messages (admissions.py) are senders of every sort with keys of
 every sort, with seqnos and signatures of every length about the limits, the rows of the scope, messages without a signature in many
 forms, and --count random ones. Each is admitted with the host's word and without, on a node that allows unsigned messages and on one that
 does not, and that keeps nothing but the last id, so that nothing is a duplicate. The Rust's `verify` is asked with a

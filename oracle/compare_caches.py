@@ -3,7 +3,7 @@
 
     oracle/compare_caches.py BINARY [--seed N] [--count N]
 
-BINARY is target/bin/caches, after `rt check caches`. The histories are fixed ones
+BINARY is target/bin/caches, after `tools/build caches`. The histories are fixed ones
 about every edge and every refusal, and --count random ones (caches.py), many in one
 run. Then come short runs that end in `bad` or `long`: random ones, one for ten
 histories, and fixed ones whose texts are written here. Every line is compared; the

@@ -3,7 +3,7 @@
 
     oracle/compare_decode.py BINARY [--seed N] [--count N]
 
-BINARY is target/bin/inspect, after `rt check inspect`. The bodies are all short
+BINARY is target/bin/inspect, after `tools/build inspect`. The bodies are all short
 ones, the rows of the scope, topics about every row of RFC 3629, bodies about
 the largest size and the most records, bodies with the field that edition 1.2 adds,
 which 1.1 and the Rust skip, and --count random ones (bodies.py). Every

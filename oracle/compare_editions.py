@@ -3,7 +3,7 @@
 
     oracle/compare_editions.py BINARY [--seed N] [--count N]
 
-BINARY is target/bin/inspect, after `rt check inspect`. The bodies are those about the field that 1.2
+BINARY is target/bin/inspect, after `tools/build inspect`. The bodies are those about the field that 1.2
 adds to a control: every entry of up to two bytes, good ones and damaged ones, entries beside one
 another, ids of all lengths, 510 to 600 records, sizes about the largest; some of those of
 compare_decode.py and compare_write.py; and --count random ones, most of which have that field

@@ -3,7 +3,7 @@
 
     oracle/compare_groups.py BINARY [--seed N] [--count N]
 
-BINARY is target/bin/inspect, after `rt check inspect`. The bodies are those with groups (bodies.py): all
+BINARY is target/bin/inspect, after `tools/build inspect`. The bodies are those with groups (bodies.py): all
 short ones of an alphabet, at the top and in every message, groups of known numbers beside the fields of
 each message, depths about the most, each refusal in and about a group, sizes and records about the
 largest; some of those of compare_decode.py; and --count random ones, most of which have groups. Each is

@@ -3,7 +3,7 @@
 
     oracle/compare_keys.py BINARY [--seed N] [--count N]
 
-BINARY is target/bin/inspect, after `rt check inspect`. The inputs are the rows of the scope, all
+BINARY is target/bin/inspect, after `tools/build inspect`. The inputs are the rows of the scope, all
 short ones, lengths and types about every edge, codes and lengths of ten bytes, and --count random
 ones (keys.py): keys and peer ids as they should be, damaged, with fields in another order, with bytes
 after them. Of a key that is taken the type and the data are compared, of a peer id how it is made

@@ -3,7 +3,7 @@
 
     oracle/compare_lifetime.py BINARY [--seed N] [--count N]
 
-BINARY is target/bin/trace, after `rt check trace`. All histories of four calls are played
+BINARY is target/bin/trace, after `tools/build trace`. All histories of four calls are played
 for nine small settings, over admits of two notices and a heartbeat at three readings; and
 --count random ones, each of one node with a small ttl and max_seen: admits of a few notices
 and heartbeats, at readings that mostly stand or go on a little and sometimes step back. From

@@ -3,7 +3,7 @@
 
     oracle/compare_lists.py BINARY [--seed N] [--count N]
 
-BINARY is target/bin/inspect, after `rt check inspect`. The lists (lists.py) are the rows of the scope, messages about every limit, mixtures of every sort, places
+BINARY is target/bin/inspect, after `tools/build inspect`. The lists (lists.py) are the rows of the scope, messages about every limit, mixtures of every sort, places
 about the end of the bytes and about 2^64, sizes about the largest, what decode leaves for a body, and --count random ones: most of them may be written, with
 senders of every sort and signatures of 64 bytes, rows that begin anywhere and places that overlap. Each is written, and the bytes to sign of one of its messages are
 asked for. Where nothing is refused the bytes are held to the Rust's: an RPC of these fields is made there, and `Rpc::encode` and `sign_bytes` say its bytes and

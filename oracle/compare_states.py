@@ -3,7 +3,7 @@
 
     oracle/compare_states.py BINARY [--seed N] [--count N]
 
-BINARY is target/bin/states, after `rt check states`. The model is states.py, over the node of
+BINARY is target/bin/states, after `tools/build states`. The model is states.py, over the node of
 nodes.py. The histories (state_histories.py) are fixed ones, each a run of its own: every refusal
 with its values, every clause of 42 broken alone, states that look odd and are well formed, stores
 of other lengths, buffers that just fit and just do not, full capacities, arrival numbers at the

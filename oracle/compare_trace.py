@@ -3,7 +3,7 @@
 
     oracle/compare_trace.py BINARY [--seed N] [--count N]
 
-BINARY is target/bin/trace, after `rt check trace`. The model is nodes.py, written
+BINARY is target/bin/trace, after `tools/build trace`. The model is nodes.py, written
 from the scope's sentences; the Rust has no node. The histories are fixed ones
 about every edge and every refusal that a trace can show, all short ones of a few
 calls, and --count random ones (traces.py), many in one run; two nodes that catch up

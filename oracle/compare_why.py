@@ -3,7 +3,7 @@
 
     oracle/compare_why.py BINARY [--seed N] [--count N] [--state FILE]
 
-BINARY is target/bin/why, after `rt check why`. The model is whys.py, over the node of nodes.py;
+BINARY is target/bin/why, after `tools/build why`. The model is whys.py, over the node of nodes.py;
 the Rust has no such call. The histories are fixed ones about every answer, window, topic and id, and
 about saved nodes that are taken, cut, longer and hurt; and --count random ones (whys.py). Then come runs
 that end in `bad` or `long` and answers that are written down in whys.py. Every line is compared.
@@ -92,7 +92,7 @@ def of_file(path):
 
 def main():
     parser = argparse.ArgumentParser(description=__doc__.split("\n")[0])
-    parser.add_argument("binary", metavar="BINARY", help="target/bin/why, after `rt check why`")
+    parser.add_argument("binary", metavar="BINARY", help="target/bin/why, after `tools/build why`")
     parser.add_argument("--seed", type=int, default=1)
     parser.add_argument("--count", type=int, default=COUNT)
     parser.add_argument("--state", metavar="FILE", help="a saved gateway to play, too")

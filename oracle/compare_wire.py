@@ -3,7 +3,7 @@
 
     oracle/compare_wire.py BINARY [--seed N] [--count N]
 
-BINARY is target/bin/inspect, after `rt check inspect`. The inputs are all short
+BINARY is target/bin/inspect, after `tools/build inspect`. The inputs are all short
 ones, the rows of the scope, bodies about the largest size, and --count random
 ones (wire.py). Of a walk that is refused the place is held to the finder of places.py,
 what stands before it to the Rust; a varint alone has no place. Then come runs that end
@@ -30,7 +30,7 @@ SHOWN = 10
 def arguments(about, count, name, rust=True):
     """What the command line gives; `binary` are the words that run the program. Where the Rust is asked, the oracle is built if it is not there."""
     parser = argparse.ArgumentParser(description=about.split("\n")[0])
-    parser.add_argument("binary", metavar="BINARY", help="target/bin/%s, after `rt check %s`" % (name, name))
+    parser.add_argument("binary", metavar="BINARY", help="target/bin/%s, after `tools/build %s`" % (name, name))
     parser.add_argument("--seed", type=int, default=1)
     parser.add_argument("--count", type=int, default=count)
     given = parser.parse_args()

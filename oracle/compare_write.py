@@ -3,7 +3,7 @@
 
     oracle/compare_write.py BINARY [--seed N] [--count N]
 
-BINARY is target/bin/inspect, after `rt check inspect`. The bodies are those of
+BINARY is target/bin/inspect, after `tools/build inspect`. The bodies are those of
 compare_decode.py, then messages with from and seqno of lengths about the
 limits, and prunes with backoffs about the values where a varint grows by a byte,
 so that lengths of one byte to ten are written. Each body is encoded; sign bytes

@@ -10,7 +10,7 @@ back, maxima of 0, messages with topics of every sort, each answer of `why`, ref
 message of a body, with their places, senders and keys of every sort, unsigned messages with
 the flags that allow them and without, bodies in either edition, with second bodies of serve, and groups, where they are skipped and where not (state_histories.py).
 A reply about 65,536 bytes would be too long for it: compare_states.py has those. The answers in
-stdout are the model's (states.py), never the program's; `rt check` holds the program to them. With
+stdout are the model's (states.py), never the program's; `rt ci` holds the program to them. With
 BINARY, target/bin/states, they are compared at once.
 """
 

@@ -8,7 +8,7 @@ history that meets every refusal that a trace can show, the rows about senders (
 the shorter ones of the fixed histories and some random ones (traces.py, seed below), and
 ends in `long`. The third has pairs of nodes that catch up with each other, both
 ways, until both offer the same bytes, and ends in `bad`. The answers in stdout of these two
-are the model's (nodes.py), never the program's; `rt check` holds the program to them.
+are the model's (nodes.py), never the program's; `rt ci` holds the program to them.
 """
 
 import os

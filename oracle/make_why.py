@@ -4,7 +4,7 @@
     oracle/make_why.py [BINARY]
 
 The input asks why an id is not offered, of a node that is started and of one that is given
-as bytes, and ends in `bad`. The answers in stdout are written here by hand, beside the records; `rt check`
+as bytes, and ends in `bad`. The answers in stdout are written here by hand, beside the records; `rt ci`
 holds the program to them. With BINARY, target/bin/why, they are compared at once.
 """
 

@@ -20,7 +20,7 @@ def stop(why):
 def running(path, name):
     """The words that run a program here."""
     if not os.path.isfile(path):
-        stop("no program at %s: `rt check %s` makes target/bin/%s" % (path, name, name))
+        stop("no program at %s: `tools/build %s` makes target/bin/%s" % (path, name, name))
     if not os.access(path, os.X_OK):
         stop("%s is not a program that may be run" % path)
     try:

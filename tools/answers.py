@@ -20,7 +20,7 @@ class Failure(Exception):
 def running(program, name):
     """The words that run a program here."""
     if not os.path.isfile(program):
-        raise Failure("no program at %s: `rt check %s` makes it, or name one by --program" % (program, name))
+        raise Failure("no program at %s: `tools/build %s` makes it, or name one by --program" % (program, name))
     if not os.access(program, os.X_OK):
         raise Failure("%s is not a program that may be run" % program)
     return x86.running(os.path.abspath(program))

@@ -1,5 +1,5 @@
 #!/usr/bin/env python3
-"""Tests of tools/inspect. Most need target/bin/inspect, which `rt check inspect` makes; without it they are left out, and that is said.
+"""Tests of tools/inspect. Most need target/bin/inspect, which `tools/build inspect` makes; without it they are left out, and that is said.
 
     python3 tools/test_inspect.py
 """
@@ -507,7 +507,7 @@ class Programs(Case):
             return self.wrong("--program", program, *(words or ("1a00",)))
 
     def test_none(self):
-        self.assertIn("no program at /no/such: `rt check inspect` makes it, or name one by --program", self.told("/no/such"))
+        self.assertIn("no program at /no/such: `tools/build inspect` makes it, or name one by --program", self.told("/no/such"))
         path = self.file("closed", "x")
         self.assertIn("is not a program that may be run", self.told(path))
         os.chmod(path, 0o755)
@@ -547,10 +547,10 @@ class Programs(Case):
 
     def test_a_program_without_editions(self):
         self.assertEqual(self.told(self.stub("bad"), "--edition", "1.2", "1a00"), "inspect: the program does not know edition 1.2: it is of an earlier version, and "
-                         "`rt check inspect` makes it anew\n")
+                         "`tools/build inspect` makes it anew\n")
         self.assertIn("none that it should give", self.told(self.stub("bad"), "--edition", "1.1", "1a00"))
         for words, what in ((("--groups",), "groups"), (("--groups", "--edition", "1.2"), "edition 1.2, or groups")):
-            self.assertEqual(self.told(self.stub("bad"), *words, "--", "1a00"), "inspect: the program does not know %s: it is of an earlier version, and `rt check inspect` "
+            self.assertEqual(self.told(self.stub("bad"), *words, "--", "1a00"), "inspect: the program does not know %s: it is of an earlier version, and `tools/build inspect` "
                              "makes it anew\n" % what)
         # In 1.1, where groups are refused, it is asked as ever.
         for words, kind in ((("--edition", "1.1"), b"\x01\x00\x1a\x00"), (("--edition", "1.2"), b"\x15\x00\x01\x1a\x00"), (("--groups",), b"\x15\x00\x02\x1a\x00"),
@@ -562,7 +562,7 @@ class Programs(Case):
     def test_a_program_without_keys(self):
         for words in (("--key", "00"), ("--peer", "00")):
             self.assertEqual(self.told(self.stub("bad"), *words), "inspect: the program does not know keys and peer ids: it is of an earlier version, and "
-                             "`rt check inspect` makes it anew\n")
+                             "`tools/build inspect` makes it anew\n")
 
     def test_refusals_of_later_numbers(self):
         program = self.stub("1 decode refused 17 3\n2 encode refused 17 3")
@@ -571,7 +571,7 @@ class Programs(Case):
 
     def test_a_program_without_places(self):
         program = self.stub("1 decode refused 1\n2 encode refused 1")
-        self.assertEqual(self.told(program, "80"), "inspect: the program does not tell where the body is refused: it is of an earlier version, and `rt check inspect` "
+        self.assertEqual(self.told(program, "80"), "inspect: the program does not tell where the body is refused: it is of an earlier version, and `tools/build inspect` "
                          "makes it anew\n")
 
     def test_a_field_of_a_later_edition(self):

@@ -187,7 +187,7 @@ class Case(unittest.TestCase):
         self.write(os.path.join(self.made, "libpradulins.a"), b"!<arch>\npradulins_start\0pradulins_format\0")
         self.assertEqual(self.wrong(self.prefix, "--archive", self.made),
                          "install: %s/libpradulins.a has no pradulins_write_rpc: it is of an earlier version than the header, which is of %s. "
-                         "`tools/archive pradulins` makes it anew\n" % (self.made, INSTALL.version()))
+                         "`tools/build pradulins` makes it anew\n" % (self.made, INSTALL.version()))
         self.assertEqual(self.files(self.prefix), [])
 
     def test_other_words(self):
@@ -197,7 +197,7 @@ class Case(unittest.TestCase):
         self.assertIn("PREFIX", self.wrong(status=2))
 
     @unittest.skipUnless(os.path.isfile(os.path.join(TRUE_ARCHIVE, "libpradulins.a")) and INSTALL.x86.compiler() and shutil.which("pkg-config"),
-                         "target/staticlib/libpradulins.a (`tools/archive pradulins` makes it), a C compiler for x86-64 or pkg-config is missing")
+                         "target/staticlib/libpradulins.a (`tools/build pradulins` makes it), a C compiler for x86-64 or pkg-config is missing")
     def test_a_program(self):
         status, out, err = self.call(self.prefix, "--archive", TRUE_ARCHIVE)
         self.assertEqual((status, err), (0, ""))

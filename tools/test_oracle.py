@@ -130,7 +130,7 @@ class Case(unittest.TestCase):
         for name, program in PROGRAM.items():
             oracle = {"ORACLE_BIN": sys.executable} if name in RUST else {}
             status, out, err = self.call("oracle/%s.py" % name, "target/bin/none", **oracle)
-            self.assertEqual((status, out, err), (2, "", "%s: no program at target/bin/none: `rt check %s` makes target/bin/%s\n" % (name, program, program)))
+            self.assertEqual((status, out, err), (2, "", "%s: no program at target/bin/none: `tools/build %s` makes target/bin/%s\n" % (name, program, program)))
 
     def test_no_oracle(self):
         for name in RUST + ("compare_model", "make_vectors"):

@@ -387,7 +387,7 @@ class Playing(Case):
             self.assertEqual((given[0], given[2]), ("/other", name))
         status, _, err = self.call("--program", os.path.join(self.folder, "none"), text="why 1 41 t")
         self.assertEqual(status, 1)
-        self.assertIn("rt check why", err)
+        self.assertIn("tools/build why", err)
 
     def test_answers(self):
         status, out = self.play(
@@ -509,7 +509,7 @@ class Programs(Case):
     def test_none(self):
         status, out, err = self.call("--program", os.path.join(self.folder, "none"), text=self.TEXT)
         self.assertEqual((status, out), (1, b""))
-        self.assertIn("rt check trace", err)
+        self.assertIn("tools/build trace", err)
         os.chmod(self.file("closed", "x"), stat.S_IRUSR)
         status, _, err = self.call("--program", os.path.join(self.folder, "closed"), text=self.TEXT)
         self.assertEqual(status, 1)

@@ -138,7 +138,7 @@ class Answers(Case):
         path = self.file("largest", saved.sealed(rest))
         self.assertEqual((self.told(A00, "t", 1, state=path), self.told(A + "40", "t", 1, state=path)), ("listed\n", "not in the cache\n"))
 
-    @unittest.skipUnless(os.path.isfile(PROGRAM), "no target/bin/why: `rt check why` makes it")
+    @unittest.skipUnless(os.path.isfile(PROGRAM), "no target/bin/why: `tools/build why` makes it")
     def test_the_program(self):
         for name, topic, windows, status, line in (
                 (A04, "t", 1, 0, "listed"), (A03, "t", 1, 0, "in the cache, in a window of age 1"), (A04, "u", 1, 0, "in the cache, without that topic"),
@@ -239,7 +239,7 @@ class Words(Case):
 
 class Programs(Case):
     def test_none(self):
-        self.assertIn("no program at /no/such: `rt check why` makes it", self.wrong(self.state, A04, "t", "1", program="/no/such"))
+        self.assertIn("no program at /no/such: `tools/build why` makes it", self.wrong(self.state, A04, "t", "1", program="/no/such"))
         self.assertIn("may be run", self.wrong(self.state, A04, "t", "1", program=self.file("closed", "x")))
         other = self.file("other", b"\x7fELF nothing")
         os.chmod(other, 0o755)

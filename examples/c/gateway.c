@@ -14,7 +14,7 @@
  *
  * Its buffers and the table of its checksum are static: it is for one gateway and one thread.
  *
- * To build it, on x86-64 Linux in the repository's folder, after `tools/archive pradulins`:
+ * To build it, on x86-64 Linux in the repository's folder, after `tools/build pradulins`:
  *
  *     cc -std=c99 -Iinclude examples/c/gateway.c target/staticlib/libpradulins.a -o gateway
  *

@@ -226,7 +226,7 @@
 //!
 //! # Linking
 //!
-//! The archive libpradulins.a is for x86-64 Linux. It is looked for where `tools/archive pradulins` writes it in the repository that this crate stands
+//! The archive libpradulins.a is for x86-64 Linux. It is looked for where `tools/build pradulins` writes it in the repository that this crate stands
 //! in, or in the folder that the environment variable `PRADULINS_LIB_DIR` names (by its whole path: another counts from this crate's folder). Where
 //! there is none, or only one from before version 0.6.0, or for another machine, the crate can be checked and those of its tests run that call nothing of it;
 //! `tools/host` of the repository runs all tests and the example on Arm, too. An archive of another [`FORMAT`], or of a version with other values or other

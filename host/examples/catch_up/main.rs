@@ -22,7 +22,7 @@ fn main() -> Result<(), Box<dyn std::error::Error>> {
 #[cfg(no_archive)]
 fn main() {
     if cfg!(all(target_arch = "x86_64", target_os = "linux")) {
-        eprintln!("catch_up: there is no libpradulins.a, or only an older one. Make it by `tools/archive pradulins` in the repository's folder,");
+        eprintln!("catch_up: there is no libpradulins.a, or only an older one. Make it by `tools/build pradulins` in the repository's folder,");
         eprintln!("or name the folder that has it in PRADULINS_LIB_DIR.");
     } else {
         eprintln!("catch_up: libpradulins.a is for x86-64 Linux, and cannot be linked here. On Arm, `tools/host example` in the repository's folder");

@@ -1,5 +1,5 @@
 -- `basis::spell_little` meets its contract. The invariant: to write the bytes of v that are left is to write those of the value.
-use Prim.Native.Nat.{◌+◌, ◌-◌}
+use Prim.Native.Nat.{◌+◌}
 use mathlib.Core.Path.{refl, sym, ◌∙◌}
 use borrow.Author.Rules.{rules}
 use Rattle.basis.proofs.Little.{byte-written, all-written}
