@@ -7,7 +7,7 @@ use Rattle.peer_id.specs.declared.VarintError.TheVariants.{BufferTooShort, Overf
 use Rattle.peer_id.specs.declared.Uvarint.{Uvarint}
 use Rattle.peer_id.specs.declared.Uvarint.TheVariants.{Value, Refused}
 use Rattle.peer_id.specs.declared.Group.{Group}
-use Rattle.peer_id.specs.declared.Group.TheVariants.{More, Last, Refused as Ill}
+use Rattle.peer_id.specs.declared.Group.TheVariants.{Refused as Ill}
 use Rattle.peer_id.specs.Uvarint.{group_of, read_from, read_uvarint, below, on_group}
 use Rattle.peer_id.specs.Laws.{Says, more, last, says, is-more}
 use Rattle.peer_id.specs.Laws.{large as says-large, padded as says-padded}

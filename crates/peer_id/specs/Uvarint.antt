@@ -1,7 +1,6 @@
 -- Unsigned varints, from the Protocol Buffers encoding document, "Base 128 Varints": groups of seven bits, the low
 -- group first, each byte but the last with 128 added.
 use Rattle.std.specs.Prelude.{ℕ, zero, suc, ◌+◌, ◌*◌, ◌/◌, ◌%◌, List, [], ◌∷◌, cond, ltb, leb, eqb}
-use Rattle.peer_id.specs.declared.VarintError.{VarintError}
 use Rattle.peer_id.specs.declared.VarintError.TheVariants.{BufferTooShort, Overflow, NonCanonical}
 use Rattle.peer_id.specs.declared.Uvarint.{Uvarint}
 use Rattle.peer_id.specs.declared.Uvarint.TheVariants.{Value, Refused}

@@ -1,5 +1,5 @@
-// A reader that holds a body, a place in it and the mode, from which the host reads one top-level field after the other. The borrow checker covers
-// no function over a struct that holds a reference, so these are thin and proved by hand: a step's work is the cursor's.
+// A reader that holds a body, a place in it and the mode, from which the host reads one top-level field after the other. A step's work is the
+// cursor's.
 #![tactic(auto)]
 
 ghost use Rattle.std.specs.Prelude.{◌≡◌};
