@@ -1,6 +1,6 @@
 -- `compose::backed_fine` meets its contract: no signature where none is asked for, or the tests of both.
-use mathlib.Core.Logic.{⊎_elim}
 use Rattle.compose.proofs.Tests.{bare-fit, bare-key, backed_off, backed-signed}
+use Rattle.compose.proofs.backed_fine.Goals.{in-Absent+else-unsigned, in_default}
 use Rattle.compose.proofs.backed_fine.Goals as goal
 
 pub returns-in-Absent-key : goal.returns-in-Absent-key
@@ -20,7 +20,7 @@ returns c =
     let a = c.args in
     let f = c.signature_fine-c.ensures in
     let g = c.sender_key_fine-d.ensures in
-    ⊎_elim
-    (λ w. backed_off a.bytes.now a.base _ a.unsigned a.signature a.key f g c.first.ensures w.1.given.1 w.2.left)
-    (λ w. backed-signed a.bytes.now a.base _ a.unsigned a.signature a.key f g c.first.ensures _ _ w.1.given.1)
-    c.match-signature.branch
+    elim c.match-signature.branch [
+      in-Absent+else-unsigned w ↦ backed_off a.bytes.now a.base _ a.unsigned a.signature a.key f g c.first.ensures w.in-Absent.is w.if-unsigned.false
+    | in_default w ↦ backed-signed a.bytes.now a.base _ a.unsigned a.signature a.key f g c.first.ensures _ _ w.in_default.is
+    ]

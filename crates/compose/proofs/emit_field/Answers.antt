@@ -20,8 +20,8 @@ emit_place-requires c =
     let a = c.args in
     let p = c.requires in
     let n = length a.bytes.now in
-    let m = message-row n a.r (record_from a.records.now (a.i * 20)) p.1.1.0 (p.0.each a.i p.1.0.0) p.1.0.1 in
-    (p.1.1.1, subst (λ (x : Place). inside_at n a.r.start x ≡ true) (sym c.slot_at-place.ensures) (slot_inside n a.r.start a.n a.r.slots m))
+    let m = message-row n a.r (record_from a.records.now (a.i * 20)) p.r_value.0 (p.inside.each a.i p.message_row.0) p.message_row.1 in
+    (p.r_value.1, subst (λ (x : Place). inside_at n a.r.start x ≡ true) (sym c.slot_at-place.ensures) (slot_inside n a.r.start a.n a.r.slots m))
 
 pub returns : goal.returns
 returns c =

@@ -10,8 +10,8 @@ use Rattle.compose.proofs.emit_fields.Goals as goal
 pub emit_field-requires : goal.emit_field-requires
 emit_field-requires c =
     let p = c.requires in record {
-      inside = p.0;
-      message_row = p.1;
+      inside = p.inside;
+      message_row = p.message_row;
       r_value = (c.row_at-r.ensures, omega arith);
     }
 

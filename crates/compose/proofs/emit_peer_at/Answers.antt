@@ -12,7 +12,7 @@ pub emit_peer_field-requires : goal.emit_peer_field-requires
 emit_peer_field-requires c =
     let a = c.args in
     let p = c.requires in
-    peer-row (length a.bytes.now) _ (record_from a.records.now (a.i * 20)) c.row_at-r.ensures (p.0.each a.i p.1) (sym c.is_code.ensures ∙ c.if-is_code.true)
+    peer-row (length a.bytes.now) _ (record_from a.records.now (a.i * 20)) c.row_at-r.ensures (p.inside.each a.i p.i_in_bounds) (sym c.is_code.ensures ∙ c.if-is_code.true)
 
 pub returns-then-is_code : goal.returns-then-is_code
 returns-then-is_code c =

@@ -12,7 +12,7 @@ pub emit_place-j-requires : goal.emit_place-j-requires
 emit_place-j-requires c =
     let a = c.args in
     let p = c.requires in
-    (omega arith, prune-row (length a.bytes.now) _ (record_from a.records.now (a.i * 20)) c.row_at-r.ensures (p.0.each a.i p.1.0) p.1.1)
+    (omega arith, prune-row (length a.bytes.now) _ (record_from a.records.now (a.i * 20)) c.row_at-r.ensures (p.inside.each a.i p.i_in_bounds) p.i_value)
 
 pub returns : goal.returns
 returns c =

@@ -11,7 +11,7 @@ pub emit_sub_opts-requires : goal.emit_sub_opts-requires
 emit_sub_opts-requires c =
     let a = c.args in
     let p = c.requires in
-    sub_opts_row (length a.bytes.now) _ (record_from a.records.now (a.i * 20)) c.row_at-r.ensures (p.0.each a.i p.1.0) (of_code (record_from a.records.now (a.i * 20)) c.if-code-eq-SUB_OPTS.true p.1.1.1)
+    sub_opts_row (length a.bytes.now) _ (record_from a.records.now (a.i * 20)) c.row_at-r.ensures (p.inside.each a.i p.i_in_bounds) (of_code (record_from a.records.now (a.i * 20)) c.if-code-eq-SUB_OPTS.true p.code_value)
 
 pub returns-then-code-eq-SUB_OPTS : goal.returns-then-code-eq-SUB_OPTS
 returns-then-code-eq-SUB_OPTS c =
@@ -22,8 +22,8 @@ pub emit_message-requires : goal.emit_message-requires
 emit_message-requires c =
     let a = c.args in
     let p = c.requires in record {
-      inside = p.0;
-      message_row = (p.1.0, of_code (record_from a.records.now (a.i * 20)) c.if-code-eq-RAW_MESSAGE.true p.1.1.1);
+      inside = p.inside;
+      message_row = (p.i_in_bounds, of_code (record_from a.records.now (a.i * 20)) c.if-code-eq-RAW_MESSAGE.true p.code_value);
     }
 
 pub returns-then-code-eq-RAW_MESSAGE : goal.returns-then-code-eq-RAW_MESSAGE
@@ -35,7 +35,7 @@ pub emit_graft-requires : goal.emit_graft-requires
 emit_graft-requires c =
     let a = c.args in
     let p = c.requires in
-    graft-row (length a.bytes.now) _ (record_from a.records.now (a.i * 20)) c.row_at-r-then-code-eq-CONTROL_GRAFT.ensures (p.0.each a.i p.1.0) (of_code (record_from a.records.now (a.i * 20)) c.if-code-eq-CONTROL_GRAFT.true p.1.1.1)
+    graft-row (length a.bytes.now) _ (record_from a.records.now (a.i * 20)) c.row_at-r-then-code-eq-CONTROL_GRAFT.ensures (p.inside.each a.i p.i_in_bounds) (of_code (record_from a.records.now (a.i * 20)) c.if-code-eq-CONTROL_GRAFT.true p.code_value)
 
 pub returns-then-code-eq-CONTROL_GRAFT : goal.returns-then-code-eq-CONTROL_GRAFT
 returns-then-code-eq-CONTROL_GRAFT c =
@@ -46,13 +46,13 @@ pub emit_prune-requires : goal.emit_prune-requires
 emit_prune-requires c =
     let a = c.args in
     let p = c.requires in record {
-      inside = p.0;
-      i_in_bounds = p.1.0;
-      i_value = of_code (record_from a.records.now (a.i * 20)) (last_code p.1.1.0 c.if-code-eq-SUB_OPTS.false c.if-code-eq-RAW_MESSAGE.false c.if-code-eq-CONTROL_GRAFT.false) p.1.1.1;
+      inside = p.inside;
+      i_in_bounds = p.i_in_bounds;
+      i_value = of_code (record_from a.records.now (a.i * 20)) (last_code p.written c.if-code-eq-SUB_OPTS.false c.if-code-eq-RAW_MESSAGE.false c.if-code-eq-CONTROL_GRAFT.false) p.code_value;
     }
 
 pub returns : goal.returns
 returns c =
     let a = c.args in
     let p = c.requires in
-    puts_same a.out.now a.at _ _ _ _ (row-prune a.code a.bytes.now (record_from a.records.now (a.i * 20)) (rows_from a.records.now (a.i + 1)) (last_code p.1.1.0 c.if-code-eq-SUB_OPTS.false c.if-code-eq-RAW_MESSAGE.false c.if-code-eq-CONTROL_GRAFT.false)) c.emit_prune.ensures
+    puts_same a.out.now a.at _ _ _ _ (row-prune a.code a.bytes.now (record_from a.records.now (a.i * 20)) (rows_from a.records.now (a.i + 1)) (last_code p.written c.if-code-eq-SUB_OPTS.false c.if-code-eq-RAW_MESSAGE.false c.if-code-eq-CONTROL_GRAFT.false)) c.emit_prune.ensures

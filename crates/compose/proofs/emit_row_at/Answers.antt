@@ -9,14 +9,14 @@ use Rattle.compose.proofs.Parts.{row-yes, row-no, written-code}
 use Rattle.compose.proofs.emit_row_at.Goals as goal
 
 pub is_code-requires : goal.is_code-requires
-is_code-requires c = let p = c.requires in (p.1.0, (written-code p.1.1.0).0, (written-code p.1.1.0).1)
+is_code-requires c = let p = c.requires in (p.i_in_bounds, (written-code p.written.0).0, (written-code p.written.0).1)
 
 pub emit_row_field-requires : goal.emit_row_field-requires
 emit_row_field-requires c =
     let p = c.requires in record {
-      inside = p.0;
-      i_in_bounds = p.1.0;
-      written = p.1.1;
+      inside = p.inside;
+      i_in_bounds = p.i_in_bounds;
+      written = p.written;
       code_value = sym c.is_code.ensures ∙ c.if-is_code.true;
     }
 

@@ -12,7 +12,7 @@ pub emit_part-requires : goal.emit_part-requires
 emit_part-requires c =
     let a = c.args in
     let p = c.requires in
-    let z = topic-row (length a.bytes.now) _ (record_from a.records.now (a.i * 20)) c.row_at-r.ensures (p.0.each a.i p.1) in
+    let z = topic-row (length a.bytes.now) _ (record_from a.records.now (a.i * 20)) c.row_at-r.ensures (p.inside.each a.i p.i_in_bounds) in
     (omega arith, z.0, z.1)
 
 pub returns-then-is_code : goal.returns-then-is_code

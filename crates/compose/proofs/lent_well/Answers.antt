@@ -1,8 +1,7 @@
 -- `compose::lent_well` meets its contract: what the rows from i on say, after a message or none and a prune or none, is what all of them say.
 use Prim.Native.Nat.{◌-◌}
-use mathlib.Core.Logic.{⊎_elim}
-use borrow.Author.Tests.{not-true, not-false}
 use Rattle.compose.proofs.Tests.{or-now, or-then, lent-parts, lent-all, lent-end, lent_kind, lent_row, lent_on}
+use Rattle.compose.proofs.lent_well.Goals.{then-is_code, else-is_code, then-is_code-2, else-is_code-2}
 use Rattle.compose.proofs.lent_well.Goals as goal
 
 pub returns-then-records-ne0 : goal.returns-then-records-ne0
@@ -15,14 +14,14 @@ pub returns-then-not-held_by : goal.returns-then-not-held_by
 returns-then-not-held_by c =
     let l = c.loop-i in
     lent_kind _ _ l.i l.message l.prune _ l.invariant c.loop-i-test.true c.row_at-r.ensures
-    c.held_by.ensures (not-true _ c.if-not-held_by.true)
+    c.held_by.ensures c.if-not-held_by.true
 
 pub returns-then-not-row_inside : goal.returns-then-not-row_inside
 returns-then-not-row_inside c =
     let l = c.loop-i in
     lent_row _ _ l.i l.message l.prune _ l.invariant c.loop-i-test.true c.row_at-r.ensures
-    c.held_by.ensures (not-false _ c.if-not-held_by.false) c.row_inside.ensures
-    (not-true _ c.if-not-row_inside.true)
+    c.held_by.ensures c.if-not-held_by.false c.row_inside.ensures
+    c.if-not-row_inside.true
 
 pub loop-i-preserved : goal.loop-i-preserved
 loop-i-preserved c =
@@ -30,10 +29,15 @@ loop-i-preserved c =
     let m = c.is_code.ensures in
     let n = c.is_code-in-loop-i.ensures in
     lent_on _ _ l.i l.message l.prune _ l.invariant c.loop-i-test.true c.row_at-r.ensures
-    c.held_by.ensures (not-false _ c.if-not-held_by.false) c.row_inside.ensures
-    (not-false _ c.if-not-row_inside.false)
-    (⊎_elim (λ w. or-now l.message m w.0.taken w.1) (λ w. or-then _ m w.0.left w.1) c.if-is_code.branch)
-    (⊎_elim (λ w. or-now l.prune n w.0.taken w.1) (λ w. or-then _ n w.0.left w.1) c.if-is_code-2.branch)
+    c.held_by.ensures c.if-not-held_by.false c.row_inside.ensures c.if-not-row_inside.false
+    (elim c.if-is_code.branch [
+      then-is_code w ↦ or-now l.message m w.if-is_code.true w.message-is
+    | else-is_code w ↦ or-then _ m w.if-is_code.false w.message-is
+    ])
+    (elim c.if-is_code-2.branch [
+      then-is_code-2 w ↦ or-now l.prune n w.if-is_code-2.true w.prune-is
+    | else-is_code-2 w ↦ or-then _ n w.if-is_code-2.false w.prune-is
+    ])
 
 pub returns : goal.returns
 returns c = let l = c.loop-i in lent-end _ _ l.i l.message l.prune l.invariant c.loop-i-test.false

@@ -1,9 +1,9 @@
 -- `compose::message_row` meets its contract: so many messages were passed before row i.
 use Prim.Native.Nat.{◌-◌}
-use mathlib.Core.Logic.{⊎_elim}
 use native.Mathlib.Omega.{arith}
 use borrow.Author.Rules.{rules}
 use Rattle.compose.proofs.Tests.{passed_none, passed-all, passed_skip, passed-one, passed-found}
+use Rattle.compose.proofs.message_row.Goals.{then-is_code+else-count-index, else-is_code}
 use Rattle.compose.proofs.message_row.Goals as goal
 
 pub loop-i-init : goal.loop-i-init
@@ -19,18 +19,18 @@ pub loop-i-preserved : goal.loop-i-preserved
 loop-i-preserved c =
     let a = c.args in
     let l = c.loop-i in
-    ⊎_elim
-    (λ w. let n = w.1.left in let v = l.invariant.1 in (
-      omega arith,
-      omega arith,
-      passed-one a.records.now a.bytes.now l.count l.i a.index l.invariant.2 c.loop-i-test.true c.is_code.ensures w.0.taken w.2,
-    ))
-    (λ w. (
-      omega arith,
-      omega arith,
-      passed_skip a.records.now a.bytes.now l.count l.i a.index l.invariant.2 c.loop-i-test.true c.is_code.ensures w.0.left w.1,
-    ))
-    c.if-is_code.branch
+    elim c.if-is_code.branch [
+      then-is_code+else-count-index w ↦ let n = w.if-count-index.false in let v = l.invariant.1 in (
+        omega arith,
+        omega arith,
+        passed-one a.records.now a.bytes.now l.count l.i a.index l.invariant.2 c.loop-i-test.true c.is_code.ensures w.if-is_code.true w.count-is,
+      )
+    | else-is_code w ↦ (
+        omega arith,
+        omega arith,
+        passed_skip a.records.now a.bytes.now l.count l.i a.index l.invariant.2 c.loop-i-test.true c.is_code.ensures w.if-is_code.false w.count-is,
+      )
+    ]
 
 pub returns : goal.returns
 returns c =

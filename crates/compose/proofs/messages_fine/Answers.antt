@@ -1,8 +1,8 @@
 -- `compose::messages_fine` meets its contract: what the messages from row i on say is what all of them do.
 use Prim.Native.Nat.{◌-◌}
 use mathlib.Core.Path.{refl, sym, ◌∙◌}
-use mathlib.Core.Logic.{⊎_elim}
 use Rattle.compose.proofs.Tests.{unfit-end, unfit_skip, unfit_on, unfit-stop}
+use Rattle.compose.proofs.messages_fine.Goals.{then-is_code+in_default, else-is_code}
 use Rattle.compose.proofs.messages_fine.Goals as goal
 
 pub loop-i-init : goal.loop-i-init
@@ -26,10 +26,11 @@ pub loop-i-preserved : goal.loop-i-preserved
 loop-i-preserved c =
     let a = c.args in
     let l = c.loop-i in
-    ⊎_elim
-    (λ w. unfit_on a.flags a.records.now a.bytes.now l.i l.invariant c.loop-i-test.true c.is_code.ensures w.0.taken w.1.ensures w.3.given.1)
-    (λ w. unfit_skip a.flags a.records.now a.bytes.now l.i l.invariant c.loop-i-test.true c.is_code.ensures w.left)
-    c.if-is_code.branch
+    elim c.if-is_code.branch [
+      then-is_code+in_default w ↦
+        unfit_on a.flags a.records.now a.bytes.now l.i l.invariant c.loop-i-test.true c.is_code.ensures w.if-is_code.true w.weigh-fine.ensures w.in_default.is
+    | else-is_code w ↦ unfit_skip a.flags a.records.now a.bytes.now l.i l.invariant c.loop-i-test.true c.is_code.ensures w.if-is_code.false
+    ]
 
 pub returns : goal.returns
 returns c =

@@ -1,6 +1,5 @@
 -- `compose::topics_from` meets its contract: the topics that were counted, and those from row i on, are those from the first row on.
 use Prim.Native.Nat.{◌+◌, ◌-◌}
-use mathlib.Core.Logic.{⊎_elim}
 use native.Mathlib.Omega.{arith}
 use lib.ListN.{length}
 use borrow.Author.Rules.{rules}
@@ -10,6 +9,7 @@ use Rattle.compose.specs.Said.{topics_from}
 use Rattle.compose.proofs.Parts.{row_inside-is}
 use Rattle.compose.proofs.Tests.{inside-row, long-now, long-later, long-before, counted-all, counted-done, counted_same, counted-more}
 use Rattle.compose.proofs.Tests.{topics-end, topics-stop, topics_skip, topics-one, raw-length}
+use Rattle.compose.proofs.topics_from.Goals.{then-is_code-2+then-long-eq0+then-len-gt-MAX_TOPIC_SIZE, then-is_code-2+then-long-eq0+else-len-gt-MAX_TOPIC_SIZE, then-is_code-2+else-long-eq0, else-is_code-2}
 use Rattle.compose.proofs.topics_from.Goals as goal
 
 pub loop-i-init : goal.loop-i-init
@@ -36,29 +36,31 @@ loop-i-preserved c =
     let f = c.is_code-in-loop-i.ensures in
     let g = l.invariant.1 in
     let rest = topics_from b (rows_from t (l.i + 1)) in
-    ⊎_elim
-    (λ w. (
-      omega arith,
-      counted-more _ _ _ _ g (raw_of b w.1.result) rest _ _
-          (topics-one t b l.i h e c.if-is_code.false f w.0.taken w.1.result w.1.ensures) w.5
-          (long-now _ rest _ (raw-length t b l.i h w.1.result c.requires w.1.ensures) _ _ w.3.taken w.4.taken w.6),
-    ))
-    (⊎_elim
-    (λ w. (
-      omega arith,
-      counted-more _ _ _ _ g (raw_of b w.1.result) rest _ _
-          (topics-one t b l.i h e c.if-is_code.false f w.0.taken w.1.result w.1.ensures) w.5
-          (long-later _ rest _ (raw-length t b l.i h w.1.result c.requires w.1.ensures) _ _ w.3.taken w.4.left w.6),
-    ))
-    (⊎_elim
-    (λ w. (
-      omega arith,
-      counted-more _ _ _ _ g (raw_of b w.1.result) rest _ _
-          (topics-one t b l.i h e c.if-is_code.false f w.0.taken w.1.result w.1.ensures) w.4
-          (long-before _ rest _ (raw-length t b l.i h w.1.result c.requires w.1.ensures) _ _ w.3.left w.5),
-    ))
-    (λ w. (omega arith, counted_same _ _ _ _ g rest _ _ (topics_skip t b l.i h e c.if-is_code.false f w.0.left) w.1 w.2))))
-    c.if-is_code-2.branch
+    elim c.if-is_code-2.branch [
+      then-is_code-2+then-long-eq0+then-len-gt-MAX_TOPIC_SIZE w ↦
+        let r = w.row_at-r in (
+          omega arith,
+          counted-more _ _ _ _ g (raw_of b r.result) rest _ _
+              (topics-one t b l.i h e c.if-is_code.false f w.if-is_code-2.true r.result r.ensures) w.count-is
+              (long-now _ rest _ (raw-length t b l.i h r.result c.requires r.ensures) _ _ w.if-long-eq0.true w.if-len-gt-MAX_TOPIC_SIZE.true w.long-is),
+        )
+    | then-is_code-2+then-long-eq0+else-len-gt-MAX_TOPIC_SIZE w ↦
+        let r = w.row_at-r in (
+          omega arith,
+          counted-more _ _ _ _ g (raw_of b r.result) rest _ _
+              (topics-one t b l.i h e c.if-is_code.false f w.if-is_code-2.true r.result r.ensures) w.count-is
+              (long-later _ rest _ (raw-length t b l.i h r.result c.requires r.ensures) _ _ w.if-long-eq0.true w.if-len-gt-MAX_TOPIC_SIZE.false w.long-is),
+        )
+    | then-is_code-2+else-long-eq0 w ↦
+        let r = w.row_at-r in (
+          omega arith,
+          counted-more _ _ _ _ g (raw_of b r.result) rest _ _
+              (topics-one t b l.i h e c.if-is_code.false f w.if-is_code-2.true r.result r.ensures) w.count-is
+              (long-before _ rest _ (raw-length t b l.i h r.result c.requires r.ensures) _ _ w.if-long-eq0.false w.long-is),
+        )
+    | else-is_code-2 w ↦
+        (omega arith, counted_same _ _ _ _ g rest _ _ (topics_skip t b l.i h e c.if-is_code.false f w.if-is_code-2.false) w.count-is w.long-is)
+    ]
 
 pub returns : goal.returns
 returns c =
