@@ -1,17 +1,15 @@
 -- The walk is the grammar's: it reaches the end of a body exactly where the body is well formed, and then its fields
 -- are the grammar's.
-use Rattle.std.specs.Prelude.{ℕ, ◌+◌, ◌-◌, ◌*◌, ◌/◌, ◌%◌, ◌^◌, ◌≤◌, ◌<◌, ◌≡◌, refl, List, [], ◌∷◌, ◌++◌, ◌≢◌, ◌↔◌, false, length, take, drop, ltb, leb, eqb}
-use Rattle.std.proofs.Common.{sym, ap, ap₂, subst, ◌∙◌, append_assoc, arith, length-append, length-drop, take-append-drop, drop_of_length-le, drop-drop, drop_at, take_at, ltb-false, leb-true, eqb-true, le-ltb, ne_eqb}
-use Rattle.std.proofs.lemmas.Bool.{eqb-false, lt-leb}
+use Rattle.std.specs.Prelude.{ℕ, ◌+◌, ◌-◌, ◌*◌, ◌/◌, ◌^◌, ◌≤◌, ◌<◌, ◌≡◌, refl, List, [], ◌∷◌, ◌++◌, ◌↔◌, false, length, take, drop, ltb, leb, eqb}
+use Rattle.std.proofs.Common.{sym, ap, ap₂, subst, ◌∙◌, append_assoc, arith, length-append, length-drop, drop_of_length-le, leb-true, eqb-true, le-ltb}
 use Rattle.basis.specs.declared.Mode.{Mode}
 use Rattle.basis.specs.declared.Mode.TheVariants.{Plain, Groups}
 use Rattle.basis.specs.Cases.{either, clash}
 use Rattle.basis.specs.Bytes.{Bytes}
-use Rattle.basis.specs.Lists.{drop-bytes}
 use Rattle.peer_id.specs.declared.Uvarint.{Uvarint}
 use Rattle.peer_id.specs.declared.Uvarint.TheVariants.{Value as Read, Refused as Unread}
 use Rattle.peer_id.specs.Uvarint.{uvarint, read_uvarint}
-use Rattle.peer_id.specs.Laws.{accepted, read-written, uvarint-some, used}
+use Rattle.peer_id.specs.Laws.{uvarint-some}
 use Rattle.protobuf.specs.declared.Tag.{Tag}
 use Rattle.protobuf.specs.declared.Tag.TheVariants as tag
 use Rattle.protobuf.specs.declared.Part.{Part}

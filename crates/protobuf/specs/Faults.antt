@@ -4,7 +4,7 @@
 -- end tag of another number ends (14), or in which a field after good ones is refused; and an end tag where no group is
 -- open (14). `base` is the place where the field starts in its part, and each refusal has its own place in the part; those
 -- of 14 to 16 are not told. Nothing here speaks of a reader.
-use Rattle.std.specs.Prelude.{ℕ, zero, suc, ◌+◌, ◌*◌, ◌^◌, ◌≤◌, ◌<◌, ◌≡◌, List, ◌++◌, ◌≢◌, length}
+use Rattle.std.specs.Prelude.{ℕ, zero, suc, ◌+◌, ◌*◌, ◌^◌, ◌≤◌, ◌<◌, List, ◌++◌, ◌≢◌, length}
 use Rattle.basis.specs.declared.Mode.{Mode}
 use Rattle.basis.specs.declared.Mode.TheVariants.{Plain, Groups}
 use Rattle.peer_id.specs.declared.VarintError.{VarintError}

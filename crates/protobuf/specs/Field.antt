@@ -20,7 +20,6 @@ use Rattle.protobuf.specs.declared.VarintValue.{VarintValue}
 use Rattle.protobuf.specs.declared.VarintValue.TheVariants as value
 use Rattle.protobuf.specs.declared.Skip.{Skip}
 use Rattle.protobuf.specs.declared.Skip.TheVariants as skip
-use Rattle.protobuf.specs.declared.Field.{Field}
 use Rattle.protobuf.specs.declared.Step.{Step}
 use Rattle.protobuf.specs.declared.Step.TheVariants as step
 use Rattle.protobuf.specs.declared.Walk.{Walk}

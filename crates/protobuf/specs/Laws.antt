@@ -1,9 +1,9 @@
 -- Laws of reading: what is read lies within the bytes, and a field moves on. Callers cite these and not the
 -- definitions' text.
 use Prim.Native.Nat.{ℕ, zero, suc, ◌+◌, ◌-◌, ◌/◌, ◌≤◌, ◌<◌}
-use Rattle.std.specs.Prelude.{◌≡◌, List, true, false, length, drop, ltb, leb, eqb}
+use Rattle.std.specs.Prelude.{◌≡◌, List, false, length, drop, ltb, leb, eqb}
 use Rattle.std.proofs.Math.Path.{refl}
-use Rattle.std.proofs.Common.{sym, ap, ◌∙◌, arith, ltb-false, le-leb}
+use Rattle.std.proofs.Common.{ap, ◌∙◌, arith, ltb-false, le-leb}
 use Rattle.basis.specs.declared.Mode.{Mode}
 use Rattle.basis.specs.declared.Mode.TheVariants.{Plain, Groups}
 use Rattle.basis.specs.Cases.{either, clash}

@@ -1,7 +1,7 @@
 -- What a refusal with a place tells; which numbers a refusal can have, 1 to 16; which of them reading a field can give, 1
 -- to 6, and 14 to 16 where groups are passed over; and that their place lies within the bytes that are read.
 use Rattle.std.specs.Prelude.{ℕ, zero, suc, ◌+◌, ◌-◌, ◌/◌, ◌≤◌, ◌<◌, ◌≡◌, refl, List, [], ◌∷◌, length, drop, ltb, leb, eqb}
-use Rattle.std.proofs.Common.{subst, arith, leb-false}
+use Rattle.std.proofs.Common.{arith, leb-false}
 use Rattle.basis.specs.declared.Mode.{Mode}
 use Rattle.basis.specs.declared.Mode.TheVariants.{Plain, Groups}
 use Rattle.basis.specs.Cases.{either, clash}

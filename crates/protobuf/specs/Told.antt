@@ -6,7 +6,6 @@ use Rattle.basis.specs.Refusals.{too_large, field-overflow, unsupported-wire_typ
 use Rattle.basis.specs.Refusals.{too_many-records, short-room, end-group, group-depth, group_open}
 use Rattle.basis.specs.Told.{told, placed, done, values_of}
 use Rattle.peer_id.specs.Told.{varint_told}
-use Rattle.protobuf.specs.declared.Cursor.{Cursor}
 use Rattle.protobuf.specs.declared.WireError.{WireError}
 use Rattle.protobuf.specs.declared.WireError.TheVariants as wire
 use Rattle.protobuf.specs.declared.Refusal.{Refusal}

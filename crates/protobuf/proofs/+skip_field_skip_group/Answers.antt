@@ -105,7 +105,7 @@ skip_group-returns-in-Refused-k t c =
     let a = c.args in
     let l = c.loop-at in
     goes_on a.levels a.input.now l.at a.field _ _ _ (sym c.in-Field.is ∙ c.read_tag-t.ensures) _ c.if-wire_type-eq-WIRE_END_GROUP.false
-        (sym c.in-Refused-k.is ∙ c.skip_field-k.ensures)
+    (sym c.in-Refused-k.is ∙ c.skip_field-k.ensures)
     ∙ l.invariant.1
 
 pub skip_group-loop-at-smaller : goal.skip_group-loop-at-smaller
