@@ -1,5 +1,5 @@
 -- `compose::emit_rows` meets its contract: what is left of the rows of that kind, written where those before end, makes all of them.
-use Prim.Native.Nat.{◌-◌, ◌/◌, ◌<◌}
+use Prim.Native.Nat.{◌/◌, ◌<◌}
 use mathlib.Core.Path.{refl}
 use native.Mathlib.Omega.{arith}
 use lib.ListN.{length}

@@ -1,5 +1,5 @@
 -- `compose::emit_topics` meets its contract: what is left of the topics, written where those before end, makes all of them; it ends at a message or with the rows.
-use Prim.Native.Nat.{◌-◌, ◌/◌, ◌<◌}
+use Prim.Native.Nat.{◌/◌, ◌<◌}
 use mathlib.Core.Path.{refl, sym, ◌∙◌}
 use native.Mathlib.Omega.{arith}
 use lib.ListN.{length}

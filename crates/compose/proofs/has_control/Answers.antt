@@ -1,5 +1,4 @@
 -- `compose::has_control` meets its contract: none so far, so the rows from here on say it.
-use Prim.Native.Nat.{◌-◌}
 use mathlib.Core.Path.{refl, sym, ◌∙◌}
 use native.Mathlib.Omega.{arith}
 use Rattle.compose.proofs.Parts.{has_over, has-graft, has-prune, has_other}

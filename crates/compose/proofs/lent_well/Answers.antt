@@ -1,5 +1,4 @@
 -- `compose::lent_well` meets its contract: what the rows from i on say, after a message or none and a prune or none, is what all of them say.
-use Prim.Native.Nat.{◌-◌}
 use Rattle.compose.proofs.Tests.{or-now, or-then, lent-parts, lent-all, lent-end, lent_kind, lent_row, lent_on}
 use Rattle.compose.proofs.lent_well.Goals.{then-is_code, else-is_code, then-is_code-2, else-is_code-2}
 use Rattle.compose.proofs.lent_well.Goals as goal

@@ -1,5 +1,4 @@
 -- `compose::message_row` meets its contract: so many messages were passed before row i.
-use Prim.Native.Nat.{◌-◌}
 use native.Mathlib.Omega.{arith}
 use borrow.Author.Rules.{rules}
 use Rattle.compose.proofs.Tests.{passed_none, passed-all, passed_skip, passed-one, passed-found}

@@ -1,5 +1,4 @@
 -- `compose::messages_fine` meets its contract: what the messages from row i on say is what all of them do.
-use Prim.Native.Nat.{◌-◌}
 use mathlib.Core.Path.{refl, sym, ◌∙◌}
 use Rattle.compose.proofs.Tests.{unfit-end, unfit_skip, unfit_on, unfit-stop}
 use Rattle.compose.proofs.messages_fine.Goals.{then-is_code+in_default, else-is_code}

@@ -1,5 +1,4 @@
 -- `compose::texts_fine` meets its contract: what the rows from i on say is what all of them do.
-use Prim.Native.Nat.{◌-◌}
 use mathlib.Core.Path.{refl}
 use Rattle.compose.proofs.Tests.{inside-row, texts_on, texts-stop, texts-end}
 use Rattle.compose.proofs.texts_fine.Goals as goal

@@ -1,5 +1,5 @@
 -- `compose::topics_from` meets its contract: the topics that were counted, and those from row i on, are those from the first row on.
-use Prim.Native.Nat.{◌+◌, ◌-◌}
+use Prim.Native.Nat.{◌+◌}
 use native.Mathlib.Omega.{arith}
 use lib.ListN.{length}
 use borrow.Author.Rules.{rules}
