@@ -12,7 +12,7 @@ pub loop-i-init : goal.loop-i-init
 loop-i-init c = (search rules, (refl, rw add-zero))
 
 pub overflow_cast-values : goal.overflow_cast-values
-overflow_cast-values c = omega (arith, c.shared_slice_known-in-loop-i-1.given c.loop-i.i)
+overflow_cast-values c = omega (arith, c.type_inv.values c.loop-i.i)
 
 pub loop-i-preserved : goal.loop-i-preserved
 loop-i-preserved c =
@@ -22,7 +22,7 @@ loop-i-preserved c =
       (
         put-length 2 (c.args.at + l.i * 2) _ _ _ room
             c.put_little.ensures.lent ∙ l.invariant.1.0,
-        spread-turn 2 _ l.out c.put_little.new.0
+        spread-turn 2 _ l.out c.put_little.new.out
             c.args.values.now
             c.args.at l.i (search rules) l.invariant.1.1 room
             c.put_little.ensures.lent,

@@ -19,7 +19,7 @@ loop-i-preserved c =
       (
         put-length 8 (c.args.at + l.i * 8) _ _ _ room
             c.put_little.ensures.lent ∙ l.invariant.1.0,
-        spread-turn 8 _ l.out c.put_little.new.0
+        spread-turn 8 _ l.out c.put_little.new.out
             c.args.values.now
             c.args.at l.i (search rules) l.invariant.1.1 room
             c.put_little.ensures.lent,
