@@ -11,7 +11,7 @@ returns c =
     let edition = c.edition_of-spoken.ensures in
     let did = c.admit-r.ensures in
     let t = told_as admit_told c.args.values.now (rw (node, edition) at did.answer)
-    c.told_admit.ensures c.tell.ensures in
+    c.told_admit.ensures (c.tell.ensures.value, c.tell.ensures.values_after) in
     record {
       number = t.0;
       values = t.1;

@@ -7,5 +7,5 @@ pub returns : goal.returns
 returns c =
     let t = told_as explain_told c.args.values.now
     (rw c.load-n.ensures at c.explain-r.ensures.answer) c.told_explain.ensures
-    c.tell.ensures in
+    (c.tell.ensures.value, c.tell.ensures.values_after) in
     record { number = t.0; values = t.1 }

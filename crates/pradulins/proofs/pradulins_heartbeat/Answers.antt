@@ -10,7 +10,7 @@ returns c =
     let node = c.load-n.ensures in
     let did = c.heartbeat-r.ensures in
     let t = told_as beat_told c.args.values.now
-    (rw node at did.answer) c.told_beat.ensures c.tell.ensures in
+    (rw node at did.answer) c.told_beat.ensures (c.tell.ensures.value, c.tell.ensures.values_after) in
     record {
       number = t.0;
       values = t.1;

@@ -9,5 +9,5 @@ returns c =
     let edition = c.edition_of-spoken.ensures in
     let did = c.serve-r.ensures in
     let t = told_as serve_told c.args.values.now (rw (node, edition) at did.answer)
-    c.told_serve.ensures c.tell.ensures in
+    c.told_serve.ensures (c.tell.ensures.value, c.tell.ensures.values_after) in
     record { number = t.0; values = t.1; buffer = rw (node, edition) at did.buffer }

@@ -8,7 +8,7 @@ returns-then-number-eq0 c =
     let a = c.args in
     let t =
     told_as settings_told a.values.now c.load-n.ensures c.told_settings.ensures
-    c.tell-number.ensures in
+    (c.tell-number.ensures.value, c.tell-number.ensures.values_after) in
     flags-stored a.node.now a.values.now t _ c.load-n.ensures c.if-number-eq0.true
 
 pub returns : goal.returns
@@ -16,5 +16,5 @@ returns c =
     let a = c.args in
     let t =
     told_as settings_told a.values.now c.load-n.ensures c.told_settings.ensures
-    c.tell-number.ensures in
+    (c.tell-number.ensures.value, c.tell-number.ensures.values_after) in
     flags-refused a.node.now a.values.now t c.if-number-eq0.false

@@ -8,5 +8,5 @@ returns c =
     let dialect = c.dialect_of-spoken.ensures in
     let did = c.sign_bytes-answer.ensures in
     let t = told_as message_told c.args.values.now (rw dialect at did.answer)
-    c.told_message.ensures c.tell.ensures in
+    c.told_message.ensures (c.tell.ensures.value, c.tell.ensures.values_after) in
     record { number = t.0; values = t.1; buffer = rw dialect at did.lent }

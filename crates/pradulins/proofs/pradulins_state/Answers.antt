@@ -1,19 +1,12 @@
 -- `pradulins::pradulins_state` meets its contract: what the stored node holds is told.
--- src/lib.rt:241:9
 use Rattle.pradulins.specs.Holds.{state_told}
 use Rattle.pradulins.proofs.Told.{told_as}
 use Rattle.pradulins.proofs.pradulins_state.Goals as goal
-
--- src/lib.rt:242:10
-
--- src/lib.rt:242:5
-
--- src/lib.rt:231:1
 
 pub returns : goal.returns
 returns c =
     let a = c.args in
     let t =
     told_as (λ n. state_told n a.seen_store.now a.cache_store.now) a.values.now
-    c.load-n.ensures c.told_state.ensures c.tell.ensures in
+    c.load-n.ensures c.told_state.ensures (c.tell.ensures.value, c.tell.ensures.values_after) in
     record { number = t.0; values = t.1 }

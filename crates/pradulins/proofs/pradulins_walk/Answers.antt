@@ -7,5 +7,5 @@ pub returns : goal.returns
 returns c =
     let dialect = c.dialect_of-spoken.ensures in
     let t = told_as walk_told c.args.values.now (rw dialect at c.step-answer.ensures)
-    c.told_walk.ensures c.tell.ensures in
+    c.told_walk.ensures (c.tell.ensures.value, c.tell.ensures.values_after) in
     record { number = t.0; values = t.1 }

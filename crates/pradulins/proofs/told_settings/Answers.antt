@@ -1,20 +1,7 @@
 -- `pradulins::told_settings` meets its contract: a node is started with them, or it is not.
--- src/lib.rt:196:9
 use mathlib.Core.Path.{sym, ◌∙◌}
 use Rattle.pradulins.proofs.Told.{settings_told_lem, settings-bad}
 use Rattle.pradulins.proofs.told_settings.Goals as goal
-
--- src/lib.rt:202:13
-
--- src/lib.rt:199:27
-
--- src/lib.rt:206:30
-
--- src/lib.rt:206:30
-
--- src/lib.rt:192:1
-
--- src/lib.rt:192:1
 
 pub returns-in-Started : goal.returns-in-Started
 returns-in-Started c =

@@ -1,20 +1,7 @@
 -- `pradulins::told_state` meets its contract: the state is tested.
--- src/lib.rt:214:9
 use mathlib.Core.Path.{sym, ◌∙◌}
 use Rattle.pradulins.proofs.Told.{state_told_lem, state-faulty}
 use Rattle.pradulins.proofs.told_state.Goals as goal
-
--- src/lib.rt:216:47
-
--- src/lib.rt:216:23
-
--- src/lib.rt:217:22
-
--- src/lib.rt:217:30
-
--- src/lib.rt:211:1
-
--- src/lib.rt:211:1
 
 pub returns-in-Fine : goal.returns-in-Fine
 returns-in-Fine c =
