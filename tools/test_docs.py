@@ -53,6 +53,9 @@ module _ (s : List ℕ) where
   pub read-back : readIn s ≡ 0
   read-back = refl
 """,
+    "crates/varint/proofs/Lib.antt": "-- Theorems: Later.\npub mod Later\n",
+    "crates/varint/proofs/Later.antt": "pub read-later : readIn [] ≡ 0\nread-later = refl\n",
+    "crates/ring/proofs/Lib.antt": "pub mod Steps\n",
     "crates/varint/must-fail/one_read.edit": "",
     "crates/ring/src/lib.rt": """\
 pub struct Ring {
@@ -78,7 +81,7 @@ pub extern "C" fn ring_start() -> u32
     "README.md": "Look at `docs/PROMISES.md`, crates/NAME/src and crates/*/specs.\n",
     "CONTRIBUTING.md": "| Group | Crate | What |\n|---|---|---|\n| wire | varint | numbers |\n| state | `ring` | places |\n| boundary | pradulins | C |\n",
     "docs/PROMISES.md": "| Definition | File |\n|:--|--:|\n| `readIn`, `Begins` | crates/varint/specs/Laws.antt |\n",
-    "docs/THEOREMS.md": "| Theorem | File | What |\n|---|---|---|\n| `read-back` | crates/varint/specs/Laws.antt | `a|b` |\n",
+    "docs/THEOREMS.md": "| Theorem | File | What |\n|---|---|---|\n| `read-back` | crates/varint/specs/Laws.antt | `a|b` |\n| `read-later` | crates/varint/proofs/Later.antt | so |\n",
     "docs/FUNCTIONS.md": """\
 ## Every public function
 
@@ -143,7 +146,7 @@ VALUES = {33: ("length",)}
 
 PATHS = {
     "crates": "crates.txt", "readme": "README.md", "contributing": "CONTRIBUTING.md", "varint": "crates/varint/src/lib.rt",
-    "lib": "crates/varint/specs/Lib.antt", "header": "include/pradulins.h", "refusals": "tools/refusals.py", "library": "crates/pradulins/src/lib.rt",
+    "lib": "crates/varint/specs/Lib.antt", "proved": "crates/varint/proofs/Lib.antt", "header": "include/pradulins.h", "refusals": "tools/refusals.py", "library": "crates/pradulins/src/lib.rt",
     "cargo": "host/Cargo.toml", "changelog": "CHANGELOG.md", "kit": "KIT-ID",
     "oracle": "oracle/README.md", "sources": "oracle/sources.py", "tail": "oracle/harness/tail.rs", "bench": "bench/README.md",
 }
@@ -180,13 +183,14 @@ class Case(unittest.TestCase):
         self.assertEqual(self.wrong(), [])
 
     def test_a_theorem_that_is_not_there(self):
-        self.tells("docs/THEOREMS.md:3: `read-on` does not stand in crates/varint/specs/Laws.antt, nor in any other specs", theorems=("read-back", "read-on"))
+        self.tells("docs/THEOREMS.md:3: `read-on` does not stand in crates/varint/specs/Laws.antt, nor in any other specs or proofs", theorems=("read-back", "read-on"))
 
     def test_a_field_of_a_record_is_no_definition(self):
         self.tells("`front` does not stand in", promises=("`Begins`", "`front`"))
 
     def test_where_a_name_stands_is_told(self):
         self.tells("it stands in crates/varint/specs/Laws.antt", theorems=("Laws.antt", "Lib.antt"))
+        self.tells("`read-later` does not stand in crates/varint/specs/Later.antt; it stands in crates/varint/proofs/Later.antt", theorems=("proofs/Later.antt", "specs/Later.antt"))
 
     def test_two_theorems_in_a_row(self):
         self.tells("one theorem a row", theorems=("`read-back`", "`read-back`, `readIn`"))
@@ -254,6 +258,8 @@ class Case(unittest.TestCase):
         self.tells("crates/varint/specs/Lib.antt:1: the comment does not say what More is", lib=("pub mod Laws", "pub mod Laws\npub mod More"))
         self.tells("the comment names Laws, and there is no such `pub mod`", lib=("pub mod Laws\n", ""))
         self.tells("no comment says which files", lib=("-- ", ""))
+        self.tells("crates/varint/proofs/Lib.antt:1: the comment does not say what More is", proved=("pub mod Later", "pub mod Later\npub mod More"))
+        self.tells("the comment names Later, and there is no such `pub mod`", proved=("pub mod Later\n", ""))
 
     def test_versions(self):
         self.tells("host/Cargo.toml:3: version is 1.2.4, and 1.2.3 in include/pradulins.h", cargo=('"1.2.3"', '"1.2.4"'))

@@ -29,7 +29,8 @@ use Rattle.schema.specs.declared.Counted.TheVariants as count
 use Rattle.schema.specs.Count.{counted}
 use Rattle.schema.specs.declared.Slots.{Slots}
 use Rattle.schema.specs.Slots.{slots_of}
-use Rattle.schema.specs.SlotsLaws.{PlaceInside, SlotsInside, slots_inside}
+use Rattle.schema.specs.SlotsLaws.{PlaceInside, SlotsInside}
+use Rattle.schema.proofs.SlotsLaws.{slots_inside}
 use Rattle.ids.specs.declared.MessageId.{MessageId}
 use Rattle.ids.specs.declared.MessageId.TheVariants as id
 use Rattle.ids.specs.Ids.{on_from, id_parts, id_bytes}

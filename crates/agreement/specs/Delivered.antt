@@ -16,7 +16,7 @@ use Rattle.ids.specs.declared.MessageAt.{MessageAt}
 use Rattle.ids.specs.declared.MessageAt.TheVariants.{At, Count}
 use Rattle.schema.specs.Accept.{accept_of}
 use Rattle.ids.specs.Ids.{message_at}
-use Rattle.canon.specs.Taken.{taken}
+use Rattle.canon.proofs.Taken.{taken}
 use Rattle.canonical.specs.Calls.{none_in}
 use Rattle.canon.specs.Messages.{Nth, here, there, raw-is, message-found, message-missing}
 use Rattle.node.specs.declared.Node.{Node}
@@ -27,7 +27,7 @@ use Rattle.node.specs.Calls.{lent_of, advertise_bytes, ask_bytes, served_of, rep
 use Rattle.outputs.specs.Outcomes.{itself}
 use Rattle.outputs.specs.Replied.{Replies, serve-means}
 use Rattle.history.specs.History.{admit, Placed, brought}
-use Rattle.history.specs.Laws.{carried-brought}
+use Rattle.history.proofs.Laws.{carried-brought}
 use Rattle.agreement.specs.HandOver.{reply-has}
 
 -- ---- an element of a list of messages, and its bytes

@@ -19,7 +19,7 @@ use Rattle.rpc.specs.Rpc.{Rpc}
 use Rattle.rpc.specs.Encode.{encode_rpc, repeated}
 use Rattle.schema.specs.Accept.{accept_of}
 use Rattle.canon.specs.Lengths.{bytes_field_mono}
-use Rattle.canon.specs.Taken.{Within, taken}
+use Rattle.canon.proofs.Taken.{Within, taken}
 use Rattle.mcache.specs.Messages.{held}
 use Rattle.mcache.specs.GossipLaws.{told-distinct, told-held}
 use Rattle.node.specs.Parts.{once}

@@ -32,7 +32,8 @@ use Rattle.schema.specs.declared.Place.{Place}
 use Rattle.schema.specs.declared.Place.TheVariants as place
 use Rattle.schema.specs.Accept.{accept_of}
 use Rattle.schema.specs.Slots.{slots_of}
-use Rattle.schema.specs.SlotsLaws.{PlaceInside, slots_inside}
+use Rattle.schema.specs.SlotsLaws.{PlaceInside}
+use Rattle.schema.proofs.SlotsLaws.{slots_inside}
 use Rattle.rpc.specs.Rpc.{RawMessage, Rpc}
 use Rattle.rpc.specs.Grammar.{IsMessage, is-message, IsRpc}
 use Rattle.rpc.specs.Encode.{encode_rpc, sign_bytes}
@@ -50,8 +51,8 @@ use Rattle.ids.specs.Ids.{answer_checked, left_checked, id_answer, id_left}
 use Rattle.encode.specs.Encode.{encode_checked, encode_answer, encoded_checked, encode_left}
 use Rattle.encode.specs.Sign.{sign_at, sign_checked, sign_answer, signed_at, signed_checked, sign_left}
 use Rattle.canon.specs.Canon.{canon_body}
-use Rattle.canon.specs.Taken.{taken, taken-exactly, refused-exactly}
-use Rattle.canon.specs.Written.{canon-written, sign_written}
+use Rattle.canon.proofs.Taken.{taken, taken-exactly, refused-exactly}
+use Rattle.canon.proofs.Written.{canon-written, sign_written}
 use Rattle.canon.specs.Messages.{Nth, nth_bound, nth_same, message-found, message-missing}
 
 -- ---- what the scope has the calls tell and leave

@@ -17,8 +17,8 @@ use Rattle.rpc.specs.Grammar.{IsRpc}
 use Rattle.canon.specs.Canon.{canon_body}
 use Rattle.encode.specs.Encode.{encode_checked, encode_answer, encoded_checked, encode_left}
 use Rattle.canonical.specs.Means.{canonical_means}
-use Rattle.canon.specs.Written.{canon-written}
-use Rattle.canon.specs.Taken.{Within, taken, output_shorter}
+use Rattle.canon.proofs.Written.{canon-written}
+use Rattle.canon.proofs.Taken.{Within, taken, output_shorter}
 
 module _ {d : Dialect} {s : List ℕ} {x : Rpc} (w : Within d s x) where
   -- the output means the same RPC, so every published message stands in it byte for byte, and it is within capacity

@@ -16,7 +16,7 @@ use Rattle.ids.specs.Ids.{answer_checked, left_checked, id_answer, id_left}
 use Rattle.encode.specs.Encode.{encode_checked, encode_answer, encoded_checked, encode_left}
 use Rattle.encode.specs.Sign.{sign_checked, sign_answer, signed_checked, sign_left}
 use Rattle.meaning.specs.Editions.{declines, same_accept, older_accept}
-use Rattle.canon.specs.Editions.{same-canon}
+use Rattle.canon.proofs.Editions.{same-canon}
 
 -- ---- encode
 encode_same : (mode : Mode) (c e : Edition) (s out : List ℕ) (r : Checked) → declines mode s ≡ false

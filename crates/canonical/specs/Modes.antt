@@ -34,9 +34,9 @@ use Rattle.encode.specs.Encode.{encode_checked, encode_answer, encoded_checked, 
 use Rattle.encode.specs.Sign.{sign_at, sign_checked, sign_answer, signed_at, signed_checked, sign_left}
 use Rattle.canon.specs.Canon.{canon_body, sign_of}
 use Rattle.canon.specs.Shorter.{signed_fields}
-use Rattle.canon.specs.Written.{canon-written, canon-message}
+use Rattle.canon.proofs.Written.{canon-written, canon-message}
 use Rattle.ids.specs.Modes.{same_place, message-accepted, same_parts}
-use Rattle.canon.specs.Modes.{same-canon, same-signed}
+use Rattle.canon.proofs.Modes.{same-canon, same-signed}
 use Rattle.canonical.specs.Means.{opt, bytes_entries, body-append, bytes-body, bytes-here, bytes-there}
 use Rattle.canonical.specs.Means.{bytes-sized, each_last, optional-opt, last-opt, found_of, Around}
 use Rattle.canonical.specs.Means.{canonical_around}

@@ -73,7 +73,7 @@ use Rattle.encode.specs.Sign.{sign_at, sign_checked, sign_answer, signed_at, sig
 use Rattle.canon.specs.Canon.{placed, slot_in, numbered, own_part, held_part, canon, entries_of, merged_of, body_part}
 use Rattle.canon.specs.Canon.{canon_body, sign_of}
 use Rattle.canon.specs.Lengths.{uvarint_mono}
-use Rattle.canon.specs.Editions.{same-canon}
+use Rattle.canon.proofs.Editions.{same-canon}
 use Rattle.canonical.specs.Means.{Sized, idontwant-means, Sound, rpc-sound}
 use Rattle.canonical.specs.Calls.{Writes, writes}
 

@@ -20,7 +20,8 @@ use Rattle.schema.specs.declared.Kind.TheVariants as kind
 use Rattle.schema.specs.declared.Place.{Place}
 use Rattle.schema.specs.declared.Place.TheVariants as place
 use Rattle.schema.specs.Slots.{slots_of}
-use Rattle.schema.specs.SlotsLaws.{PlaceInside, slots_inside}
+use Rattle.schema.specs.SlotsLaws.{PlaceInside}
+use Rattle.schema.proofs.SlotsLaws.{slots_inside}
 use Rattle.ids.specs.declared.MessageId.{MessageId}
 use Rattle.ids.specs.declared.MessageId.TheVariants as id
 use Rattle.ids.specs.Ids.{on_seqno, on_from, id_parts}

@@ -20,7 +20,8 @@ use Rattle.schema.specs.Schema.{role_of, rank, own_of}
 use Rattle.schema.specs.SchemaLaws.{sub-rank}
 use Rattle.schema.specs.Kinds.{by_rank}
 use Rattle.schema.specs.Slots.{no_slots, slots_of}
-use Rattle.schema.specs.SlotsLaws.{PlaceInside, SlotsInside, slots_inside}
+use Rattle.schema.specs.SlotsLaws.{PlaceInside, SlotsInside}
+use Rattle.schema.proofs.SlotsLaws.{slots_inside}
 use Rattle.message.specs.declared.Record.{Record}
 use Rattle.message.specs.Rows.{role_rows, rows_along, own_rows, rows_of}
 use Rattle.message.specs.RowsLaws.{rows_along_lem}

@@ -38,7 +38,8 @@ use Rattle.schema.specs.Schema.{role_of, rank, own_of}
 use Rattle.schema.specs.SchemaLaws.{sub-rank}
 use Rattle.schema.specs.Kinds.{by_rank}
 use Rattle.schema.specs.Slots.{no_slots, set_place, place_of, role_slots, with_field, slots_along, slots_of}
-use Rattle.schema.specs.SlotsLaws.{PlaceInside, slots_inside}
+use Rattle.schema.specs.SlotsLaws.{PlaceInside}
+use Rattle.schema.proofs.SlotsLaws.{slots_inside}
 use Rattle.message.specs.declared.Record.{Record}
 use Rattle.message.specs.Rows.{kind_code, number_words, place_words, places_words, words_of, words_of_all, role_rows, rows_along, own_rows, rows_of}
 use Rattle.message.specs.RowsLaws.{rows_along_lem}

@@ -16,8 +16,8 @@ use Rattle.rpc.specs.Rpc.{RawMessage, Rpc}
 use Rattle.rpc.specs.Grammar.{Each, IsMessage}
 use Rattle.rpc.specs.Encode.{sign_prefix, sign_bytes}
 use Rattle.meaning.specs.Decoded.{Within}
-use Rattle.canon.specs.Taken.{taken}
-use Rattle.canon.specs.Written.{sign_written}
+use Rattle.canon.proofs.Taken.{taken}
+use Rattle.canon.proofs.Written.{sign_written}
 use Rattle.canon.specs.Messages.{Nth, here, there}
 use Rattle.canonical.specs.Means.{Sized}
 use Rattle.canonical.specs.Modes.{unsigned}

@@ -17,7 +17,7 @@ use Rattle.ids.specs.declared.MessageAt.TheVariants.{At}
 use Rattle.ids.specs.Ids.{message_at}
 use Rattle.canon.specs.Canon.{canon, canon_body, sign_of}
 use Rattle.ids.specs.Modes.{message-accepted}
-use Rattle.canon.specs.Modes.{same-message, same-signed, same-canon}
+use Rattle.canon.proofs.Modes.{same-message, same-signed, same-canon}
 
 body_in : (mode : Mode) (e : Edition) (s : List ℕ) → accept_of (spoken mode e) s ≡ Fine
     → canon_body (spoken Groups e) s ≡ canon_body (spoken mode e) s

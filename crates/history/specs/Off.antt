@@ -1,21 +1,14 @@
 -- Where the flags allow no unsigned message, a call brings what it brought before there were flags, in their mode.
-use Rattle.std.specs.Prelude.{ℕ, ◌≡◌, Bool, cond, List}
-use Rattle.std.proofs.Math.Path.{refl}
-use Rattle.std.proofs.Math.Bool.{true, false}
+use Rattle.std.specs.Prelude.{ℕ, cond, List}
 use Rattle.std.proofs.Math.Option.{Option, none, some}
 use Rattle.basis.specs.declared.Mode.{Mode}
-use Rattle.basis.specs.Dialect.{mode_of, spoken}
-use Rattle.protobuf.specs.declared.Checked.{Checked}
-use Rattle.protobuf.specs.declared.Checked.TheVariants as checked
+use Rattle.basis.specs.Dialect.{spoken}
 use Rattle.protobuf.specs.Walk.{between}
 use Rattle.schema.specs.Accept.{accept_of}
 use Rattle.ids.specs.declared.MessageAt.{MessageAt}
 use Rattle.ids.specs.declared.MessageAt.TheVariants.{At, Count}
 use Rattle.ids.specs.Ids.{message_at}
-use Rattle.admission.specs.Flags.{allows_unsigned}
-use Rattle.admission.specs.Admission.{vouched}
-use Rattle.history.specs.History.{Call, admit, heartbeat, advertise, ask, serve, explain, standing, where_accepted}
-use Rattle.history.specs.History.{brought}
+use Rattle.history.specs.History.{Call, admit, heartbeat, advertise, ask, serve, explain, where_accepted}
 
 -- ---- as it was: an admit with the host's word brings the message at its index, whatever that is
 abbrev pub standing_was : List ℕ → MessageAt → Option (List ℕ)
@@ -30,31 +23,3 @@ brought_was mode (advertise topic windows out) = none
 brought_was mode (ask ed body out) = none
 brought_was mode (serve ed body second out) = none
 brought_was mode (explain id topic windows) = none
-
--- ---- with the flag off it is that
-module _ (flags : ℕ) (off : allows_unsigned flags ≡ false) where
-  standing_off : (word : Bool) (body : List ℕ) (r : MessageAt)
-      → standing flags word body r ≡ cond word (standing_was body r) none
-  unfolding vouched
-  standing_off true body (At a e) = refl
-  standing_off false body (At a e) = rw off
-  standing_off true body (Count n) = refl
-  standing_off false body (Count n) = refl
-
-  accepted_off : (word : Bool) (r : Checked) (now was : Option (List ℕ)) → now ≡ cond word was none
-      → where_accepted r now ≡ cond word (where_accepted r was) none
-  accepted_off word checked.Fine now was e = e
-  accepted_off true (checked.Refused why) now was e = refl
-  accepted_off false (checked.Refused why) now was e = refl
-
-  pub brought_off : (c : Call) → brought flags c ≡ brought_was (mode_of flags) c
-  unfolding brought brought_was
-  brought_off (admit ed body i word at) =
-      accepted_off word (accept_of (spoken (mode_of flags) ed) body)
-      (standing flags word body (message_at (mode_of flags) body i))
-      (standing_was body (message_at (mode_of flags) body i)) (standing_off word body (message_at (mode_of flags) body i))
-  brought_off (heartbeat at) = refl
-  brought_off (advertise topic windows out) = refl
-  brought_off (ask ed body out) = refl
-  brought_off (serve ed body second out) = refl
-  brought_off (explain id topic windows) = refl

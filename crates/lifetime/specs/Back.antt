@@ -1,8 +1,7 @@
--- A clock that steps back does no harm: a call whose reading is before the gateway's clock is refused and leaves the
--- node and its stores; so a history with any such calls inserted has the same states and the same other answers. It
--- holds from every state, whatever is lent.
+-- A call whose reading is before the gateway's clock, and a history with any such calls inserted; and why such a call is
+-- refused. That it leaves everything, and that the insertion changes nothing, is in proofs/Back.antt.
 use Rattle.std.specs.Prelude.{ℕ, ◌<◌, ◌≡◌, refl, Bool, List, [], ◌∷◌}
-use Rattle.std.proofs.Common.{ap, ◌∙◌, arith, lt-ltb}
+use Rattle.std.proofs.Common.{arith, lt-ltb}
 use Rattle.std.proofs.Math.Option.{none}
 use Rattle.basis.specs.declared.Edition.{Edition}
 use Rattle.basis.specs.Dialect.{mode_of}
@@ -14,7 +13,7 @@ use Rattle.node.specs.Calls.{Plan, no, taken, on_lent, lent_of, beat_number, bea
 use Rattle.node.specs.Laws.{plan_takes}
 use Rattle.history.specs.History.{State, gateway_of, Call, admit, heartbeat, advertise, ask, serve, explain, plan_in}
 use Rattle.history.specs.History.{after, after_all, reading, refusal_at}
-use Rattle.history.specs.Laws.{node-clock, refused-stays}
+use Rattle.history.proofs.Laws.{node-clock}
 use Rattle.history.specs.Answers.{Answer, answer_at, answers_of}
 use Rattle.lifetime.specs.Lifetime.{plan_form, taken_form}
 use Rattle.lifetime.specs.Taken.{fault-some, untaken_refused}
@@ -44,7 +43,7 @@ beat-of : (l : Lent) (clock : ℕ) → 0 < beat_number (on_lent beat.Faulty l (b
 beat-of (lent.Faulty why) clock = fault-some why
 beat-of lent.Fine clock = omega arith
 
-beat-back : (s : State) (at : ℕ) → at < s.node.clock → 0 < refusal_at s (heartbeat at)
+pub beat-back : (s : State) (at : ℕ) → at < s.node.clock → 0 < refusal_at s (heartbeat at)
 unfolding beat_answer
 beat-back s at h =
     rw (lt-ltb at s.node.clock h) (beat-of (lent_of s.node s.ids s.messages) s.node.clock)
@@ -53,7 +52,7 @@ beat-back s at h =
 before : (s : State) (now at : ℕ) → now ∷ [] ≡ at ∷ [] → at < (gateway_of s).clock → now < s.node.clock
 before s now at e h = let n = node-clock s in let k : now ≡ at = cc in omega arith
 
-refused-at : (s : State) (c : Call) (at : ℕ) → reading c ≡ at ∷ [] → at < (gateway_of s).clock → 0 < refusal_at s c
+pub refused-at : (s : State) (c : Call) (at : ℕ) → reading c ≡ at ∷ [] → at < (gateway_of s).clock → 0 < refusal_at s c
 refused-at s (admit ed body i word now) at e h =
     admit-back s ed body i word now (before s now at e h)
 refused-at s (heartbeat now) at e h = beat-back s now (before s now at e h)
@@ -61,13 +60,6 @@ refused-at s (advertise topic windows out) at e h = clash (cc)
 refused-at s (ask ed body out) at e h = clash (cc)
 refused-at s (serve ed body second out) at e h = clash (cc)
 refused-at s (explain id topic windows) at e h = clash (cc)
-
-pub back-refused : (s : State) (c : Call) → StepsBack s c → 0 < refusal_at s c
-back-refused s c b = refused-at s c b.at b.read b.earlier
-
--- ---- and leaves everything
-pub back-stays : (s : State) (c : Call) → StepsBack s c → after c s ≡ s
-back-stays s c b = let r = back-refused s c b in refused-stays c s (λ z. omega arith)
 
 -- ---- calls of which some are inserted
 pub data Item : Type 0 where
@@ -113,32 +105,3 @@ pub record Unmoved (is : List Item) (s : State) : Type 0 where
   pub states : own_states is s ≡ states_of (own_calls is) s
   pub last : after_all (all_calls is) s ≡ after_all (own_calls is) s
   pub answers : own_answers is s ≡ answers_of (own_calls is) s
-
-own-more : (c : Call) (is : List Item) (s : State) → Unmoved is (after c s) → Unmoved (own c ∷ is) s
-unfolding own_states states_of own_calls all_calls after_all own_answers answers_of
-own-more c is s u =
-    record {
-      states = ap (λ (l : List State). after c s ∷ l) u.states;
-      last = u.last;
-      answers = ap (λ (l : List Answer). answer_at s c ∷ l) u.answers;
-    }
-
-back_more : (c : Call) (is : List Item) (s : State) → after c s ≡ s → Unmoved is (after c s)
-    → Unmoved (extra c ∷ is) s
-unfolding own_states states_of own_calls all_calls after_all own_answers answers_of
-back_more c is s e u =
-    record {
-      states = u.states ∙ ap (states_of (own_calls is)) e;
-      last = u.last ∙ ap (after_all (own_calls is)) e;
-      answers = u.answers ∙ ap (answers_of (own_calls is)) e;
-    }
-
-nothing-moved : (s : State) → Unmoved [] s
-unfolding own_states states_of own_calls all_calls after_all own_answers answers_of
-nothing-moved s = record { states = refl; last = refl; answers = refl }
-
-pub back_changes_nothing : {is : List Item} {s : State} → InsertedBack is s → Unmoved is s
-back_changes_nothing {s = s} no_more = nothing-moved s
-back_changes_nothing {is = own c ∷ is} {s} (own-next b) = own-more c is s (back_changes_nothing b)
-back_changes_nothing {is = extra c ∷ is} {s} (back-next b bs) =
-    back_more c is s (back-stays s c b) (back_changes_nothing bs)

@@ -6,13 +6,14 @@ use Rattle.std.proofs.Math.Option.{Option, none, some}
 use native.Mathlib.Omega.{arith}
 use Rattle.basis.specs.Cases.{either}
 use Rattle.rows.specs.Ids.{same_bytes}
+use Rattle.seen.specs.Entries.{until}
 use Rattle.node.specs.Gateway.{Gateway}
 use Rattle.history.specs.History.{State, gateway_of, Settings, Fresh, Call, after, after_all, reading}
-use Rattle.history.specs.Laws.{Kept, after-keeps, all_keep, history_keeps}
+use Rattle.history.proofs.Laws.{Kept, after-keeps, all_keep, history_keeps}
 use Rattle.lifetime.specs.Lifetime.{made_new, NewAt, Twice, is_other, others_new, is_within, is_made, new_within}
 use Rattle.lifetime.specs.Steps.{Step, stayed, swept, entered, step_of, step-clock, clock-rises, new-step, at-clock}
 use Rattle.lifetime.specs.Steps.{before-clock}
-use Rattle.lifetime.specs.Never.{never-twice}
+use Rattle.lifetime.specs.Never.{never-until, until_reached}
 
 -- ---- calls, and then more calls
 pub within-append : (from ttl : ℕ) (cs ds : List Call) (s : State)
@@ -88,10 +89,10 @@ module _ {x : Settings} {s : State} (fresh : Fresh x s) (before : List Call) (fi
   pub enough : ((from : ℕ) → new_within from x.ttl whole s ≤ x.max_seen + 1) → later < 2 ^ 64 - 1
       → at + x.ttl ≤ later
   enough few small =
-      ⊎_elim (λ (h : at + x.ttl ≤ later). h)
+      ⊎_elim (λ (e : until at x.ttl ≤ later). until_reached at x.ttl later small e)
       (λ (h : x.max_seen ≤ others_new form between since-first).
       either (leb (at + x.ttl) later) (λ y. leb-true (at + x.ttl) later y)
       (λ y. let l = leb-false (at + x.ttl) later y in
       let m = many l in
       let f = few at in absurd (omega arith)))
-      (never-twice fresh t small)
+      (never-until fresh t)

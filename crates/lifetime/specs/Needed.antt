@@ -1,14 +1,15 @@
 -- No part of the theorem can be had for less: four sentences that ask less or say more, each false by a computed
 -- history; and one answer more within a stretch of ttl is too many.
 use Rattle.std.specs.Prelude.{ℕ, ◌+◌, ◌-◌, ◌^◌, ◌≤◌, ◌<◌, ◌≡◌, refl, List, [], ◌∷◌, ◌++◌, ◌⊎◌, length, take}
-use Rattle.std.proofs.Common.{ap, ◌∙◌, ⊎_elim, arith}
+use Rattle.std.proofs.Common.{ap, ◌∙◌, inl, inr, ⊎_elim, arith}
 use Rattle.std.proofs.Math.Option.{Option, none, some}
 use Rattle.basis.specs.Cases.{either}
+use Rattle.seen.specs.Entries.{until}
 use Rattle.history.specs.History.{State, Settings, Fresh, Call, after, after_all, reading}
 use Rattle.history.specs.Script.{call_of, calls_of}
 use Rattle.history.specs.Samples.{start}
 use Rattle.lifetime.specs.Lifetime.{made_new, Twice, others_new, is_within, is_made, new_within}
-use Rattle.lifetime.specs.Never.{never-twice}
+use Rattle.lifetime.specs.Never.{never-until, until_reached}
 use Rattle.lifetime.specs.Tight.{signed_at, first_form, usual, two-others, one_other, exactly-ttl, exactly-max}
 use Rattle.lifetime.specs.Tight.{one-short, last-reading}
 
@@ -23,7 +24,8 @@ Sentence asked reached crowded counted =
 -- as it is proved
 pub the_sentence : Sentence (λ (later : ℕ). later < 2 ^ 64 - 1) (λ (at ttl later : ℕ). at + ttl ≤ later)
     (λ (max others : ℕ). max ≤ others) (λ (between : List Call). between)
-the_sentence x s fresh before first between second at later form t small = never-twice fresh t small
+the_sentence x s fresh before first between second at later form t small =
+    ⊎_elim (λ (e : until at x.ttl ≤ later). inl (until_reached at x.ttl later small e)) (λ e. inr e) (never-until fresh t)
 
 -- ---- more than max_seen others: false where there are exactly max_seen
 pub not_more : Sentence (λ (later : ℕ). later < 2 ^ 64 - 1) (λ (at ttl later : ℕ). at + ttl ≤ later)

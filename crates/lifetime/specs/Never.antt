@@ -9,7 +9,7 @@ use Rattle.basis.specs.declared.Edition.{Edition}
 use Rattle.seen.specs.Entries.{until}
 use Rattle.node.specs.declared.Admit.TheVariants as answer
 use Rattle.history.specs.History.{State, gateway_of, Settings, Fresh, Call, admit, answer_in, after, after_all}
-use Rattle.history.specs.Laws.{after-keeps, all_keep, history_keeps, after-set, all_set, history_set}
+use Rattle.history.proofs.Laws.{after-keeps, all_keep, history_keeps, after-set, all_set, history_set}
 use Rattle.lifetime.specs.Lifetime.{taken_form, made_new, NewAt, Twice, others_new}
 use Rattle.lifetime.specs.Taken.{taken-answers, made-taken}
 use Rattle.lifetime.specs.Steps.{new-step}
@@ -44,7 +44,7 @@ never-until {x} {s} fresh {before} {first} {between} {second} {at} {later} {form
     ⊎_elim (λ (h : until at x.ttl ≤ later). inl h) (λ h. inr (rw (← y.max_seen) h))
     (followed_again (since fresh before first between at form t.once) (new-step k t.again))
 
-until_reached : (at ttl later : ℕ) → later < 2 ^ 64 - 1 → until at ttl ≤ later → at + ttl ≤ later
+pub until_reached : (at ttl later : ℕ) → later < 2 ^ 64 - 1 → until at ttl ≤ later → at + ttl ≤ later
 unfolding until
 until_reached at ttl later h k = omega arith
 
@@ -72,9 +72,9 @@ module _ {x : Settings} {s : State} (fresh : Fresh x s) (before : List Call) (fi
   not_new : later < at + x.ttl → later < 2 ^ 64 - 1 → others_new form between since-first < x.max_seen
       → made_new now (admit ed body i word later) ≡ some form → ⊥
   not_new soon small few m =
-      ⊎_elim (λ (h : at + x.ttl ≤ later). omega arith)
+      ⊎_elim (λ (e : until at x.ttl ≤ later). let h = until_reached at x.ttl later small e in omega arith)
       (λ (h : x.max_seen ≤ others_new form between since-first). omega arith)
-      (never-twice fresh (record { once = n; again = record { read = refl; made = m } }) small)
+      (never-until fresh (record { once = n; again = record { read = refl; made = m } }))
 
   pub taken-again : taken_form now (admit ed body i word later) ≡ some form
       → later < at + x.ttl → later < 2 ^ 64 - 1 → others_new form between since-first < x.max_seen

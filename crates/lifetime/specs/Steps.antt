@@ -20,10 +20,10 @@ use Rattle.node.specs.Calls.{Plan, no, taken}
 use Rattle.node.specs.Laws.{plan_takes, admit-says}
 use Rattle.history.specs.History.{State, gateway_of, Call, admit, heartbeat, advertise, ask, serve}
 use Rattle.history.specs.History.{explain, plan_in, answer_in, after, after_all, reading, is_new as answersNew}
-use Rattle.history.specs.Laws.{node-clock, Kept, after-keeps, admit-none, admit-leaves}
-use Rattle.history.specs.Laws.{beat-leaves}
+use Rattle.history.proofs.Laws.{node-clock, Kept, after-keeps, admit-none, admit-leaves}
+use Rattle.history.proofs.Laws.{beat-leaves, refused-stays}
 use Rattle.lifetime.specs.Lifetime.{taken_form, made_new, NewAt}
-use Rattle.lifetime.specs.Back.{back-stays}
+use Rattle.lifetime.specs.Back.{beat-back}
 
 -- ---- a step from one gateway to the next, at the readings of a call, by the form that it made new
 pub data Step (g h : Gateway) : List ℕ → Option (List ℕ) → Type 0 where
@@ -95,8 +95,9 @@ module _ (s : State) (kept : Kept s) where
   heartbeat-step : (at : ℕ) → Step (gateway_of s) (gateway_of (after (heartbeat at) s)) (at ∷ []) none
   heartbeat-step at =
       either (ltb at s.node.clock)
-      (λ t. stayed (ap gateway_of (back-stays s (heartbeat at)
-      (record { at = at; read = refl; earlier = rw (node-clock s) (ltb-true at s.node.clock t) }))))
+      (λ t.
+      let r = beat-back s at (ltb-true at s.node.clock t) in
+      stayed (ap gateway_of (refused-stays (heartbeat at) s (λ z. omega arith))))
       (λ t.
       let f = ltb-false at s.node.clock t in
       rw (beat-leaves s kept at f) (beat-step at (gateway_of s) (subst (λ (k : ℕ). k ≤ at) (sym (node-clock s)) f)))

@@ -36,7 +36,7 @@ use Rattle.node.specs.Calls.{admit_answer}
 use Rattle.node.specs.Laws.{plan_takes, takes-vouched, takes-own}
 use Rattle.history.specs.History.{State, gateway_of, Settings, Fresh, Call, admit, plan_in, answer_in, after_all, refusal_at}
 use Rattle.history.specs.History.{brought, is_new}
-use Rattle.history.specs.Laws.{node-clock, history_keeps, history_flags, brings-exactly, brings_that, brought_plan}
+use Rattle.history.proofs.Laws.{node-clock, history_keeps, history_flags, brings-exactly, brings_that, brought_plan}
 use Rattle.lifetime.specs.Lifetime.{plan_form, taken_form, made_new}
 
 -- ---- an admit that takes nothing is refused

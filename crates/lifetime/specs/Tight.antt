@@ -2,8 +2,8 @@
 -- exactly max_seen others; one unit earlier and with one other fewer it is a duplicate. With the settings at their
 -- ends, too: a ttl of 0, a max_seen of 0 and of 1. At a second reading of 2^64 - 1, where expiries stop, it is new again
 -- within ttl. The other form of the same id, without a signature, counts as an other.
-use Rattle.std.specs.Prelude.{ℕ, ◌+◌, ◌-◌, ◌^◌, ◌≡◌, refl, true, false, List, [], ◌∷◌, ◌++◌}
-use Rattle.std.proofs.Common.{sym, ap, subst, ◌∙◌, arith}
+use Rattle.std.specs.Prelude.{ℕ, ◌-◌, ◌^◌, ◌≡◌, refl, true, false, List, [], ◌∷◌, ◌++◌}
+use Rattle.std.proofs.Common.{◌∙◌, arith}
 use Rattle.std.proofs.Math.Option.{some}
 use Rattle.basis.specs.declared.Edition.TheVariants.{V11}
 use Rattle.peer_id.specs.Uvarint.{read_uvarint, read_from, group_of}
@@ -19,17 +19,14 @@ use Rattle.seen.specs.Entries.{holds, until, inserted, live}
 use Rattle.mcache.specs.Messages.{held, put}
 use Rattle.mcache.specs.State.{legal}
 use Rattle.node.specs.declared.Admit.TheVariants as answer
-use Rattle.node.specs.Gateway.{Gateway, started, marked, is_new, after_admit}
+use Rattle.node.specs.Gateway.{started, marked, is_new, after_admit}
 use Rattle.node.specs.State.{legal_settings}
-use Rattle.history.specs.History.{State, gateway_of, Settings, Fresh, heartbeat, after, after_all, answer_in, reading}
-use Rattle.history.specs.Laws.{started_by, after_admit-clock}
+use Rattle.history.specs.History.{Settings, Fresh, after, after_all, answer_in, reading}
+use Rattle.history.proofs.Laws.{started_by}
 use Rattle.history.specs.Script.{Act, gets, call_of, calls_of, gateway_by, gateway_after, Written, nothing, got}
-use Rattle.history.specs.ScriptLaws.{fresh-leaves}
 use Rattle.history.specs.Samples.{signature, message, unsigned, id_of, message_body, unsigned_body, message-carried, start}
 use Rattle.history.specs.Samples.{signed-carried, unsigned-carried, start-fresh}
 use Rattle.lifetime.specs.Lifetime.{NewAt, Twice, others_new}
-use Rattle.lifetime.specs.Back.{StepsBack, back-stays, Item, own, extra, InsertedBack, no_more, own-next}
-use Rattle.lifetime.specs.Back.{back-next, Unmoved, back_changes_nothing}
 use Rattle.lifetime.specs.Scripted.{form_by, others_by, script_makes, script_twice, script_between, script_again}
 
 -- ---- the calls: an admit of the sample with that seqno, with a signature or without, at a reading
@@ -96,7 +93,7 @@ again {x} first between n at later others fresh w p m k o =
 abbrev pub usual : Settings
 usual = lasting 1000 2 0
 
-usual-fresh : Fresh usual (start usual)
+pub usual-fresh : Fresh usual (start usual)
 unfolding legal_settings legal known_flags
 usual-fresh = start-fresh usual (omega arith) refl
 
@@ -229,29 +226,3 @@ unfolding signature message unsigned is_signed slots_of with_field set_place rol
     inserted newest until held put gateway_after others_by
 other_mark =
     new-again (signed_at 1 100) same-unsigned (signed_at 1 100) 100 100 1 marks_fresh marks_written refl refl refl refl refl
-
--- ---- calls that step back: between an admit at 100 and one at 1099, an admit at 99 and a heartbeat at 0
-abbrev pub steps : List Item
-steps =
-    own (call_of (signed_at 1 100)) ∷ extra (call_of (signed_at 1 99)) ∷ extra (heartbeat 0)
-    ∷ own (call_of (signed_at 1 1099)) ∷ []
-
-alone-written_100 : Written 0 0 (signed_at 1 100 ∷ [])
-alone-written_100 = got 0 100 (message-carried 1 V11) (omega arith) nothing
-
-clock_100 : (gateway_of (after (call_of (signed_at 1 100)) (start usual))).clock ≡ 100
-unfolding calls_of after_all gateway_after
-clock_100 =
-    ap (λ (g : Gateway). g.clock) (fresh-leaves (signed_at 1 100 ∷ []) usual-fresh alone-written_100)
-    ∙ after_admit-clock 100 (message 1) (id_of 1) (started_by usual)
-
-pub stepped_back : InsertedBack steps (start usual)
-stepped_back =
-    let s = after (call_of (signed_at 1 100)) (start usual) in
-    let a : StepsBack s (call_of (signed_at 1 99)) = record { at = 99; read = refl; earlier = omega (arith, clock_100) } in
-    let e = back-stays s (call_of (signed_at 1 99)) a in
-    let b : StepsBack s (heartbeat 0) = record { at = 0; read = refl; earlier = omega (arith, clock_100) } in
-    own-next (back-next a (back-next (subst (λ (t : State). StepsBack t (heartbeat 0)) (sym e) b) (own-next no_more)))
-
-pub unmoved : Unmoved steps (start usual)
-unmoved = back_changes_nothing stepped_back

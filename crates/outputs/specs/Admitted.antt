@@ -31,7 +31,7 @@ use Rattle.admission.specs.Told.{unfit_told}
 use Rattle.meaning.specs.Decoded.{Refusal}
 use Rattle.canonical.specs.Calls.{found_in, none_in, id-named}
 use Rattle.canon.specs.Messages.{Nth, raw-is, message-found, message-missing}
-use Rattle.canon.specs.Taken.{Within, taken as accepted, taken-exactly, refused-exactly}
+use Rattle.canon.proofs.Taken.{Within, taken as accepted, taken-exactly, refused-exactly}
 use Rattle.node.specs.declared.Node.{Node}
 use Rattle.node.specs.declared.Fault.{Fault}
 use Rattle.node.specs.declared.Lent.{Lent}

@@ -17,8 +17,8 @@ use Rattle.protobuf.specs.EncodeLaws.{bytes_field-length, tag_at-most_ten}
 use Rattle.rpc.specs.Grammar.{Each, none_left, ◌and◌}
 use Rattle.rpc.specs.Encode.{encode_rpc, repeated}
 use Rattle.canon.specs.Canon.{canon_body}
-use Rattle.canon.specs.Written.{canon-written}
-use Rattle.canon.specs.Taken.{Within}
+use Rattle.canon.proofs.Written.{canon-written}
+use Rattle.canon.proofs.Taken.{Within}
 use Rattle.mcache.specs.declared.MessageCache.{MessageCache}
 use Rattle.mcache.specs.declared.Lent.TheVariants as cacheLent
 use Rattle.mcache.specs.Messages.{Cached, topics, ids_of, carrying, enter_id, in_order, gossip_ids}

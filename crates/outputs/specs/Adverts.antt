@@ -18,7 +18,7 @@ use Rattle.rows.specs.Ids.{among}
 use Rattle.protobuf.specs.declared.Checked.TheVariants.{Fine}
 use Rattle.rpc.specs.Rpc.{Rpc}
 use Rattle.schema.specs.Accept.{accept_of}
-use Rattle.canon.specs.Taken.{Within, taken}
+use Rattle.canon.proofs.Taken.{Within, taken}
 use Rattle.mcache.specs.declared.Offer.TheVariants as offer
 use Rattle.mcache.specs.GossipLaws.{told-distinct}
 use Rattle.node.specs.Parts.{once}

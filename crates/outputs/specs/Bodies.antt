@@ -19,7 +19,7 @@ use Rattle.rpc.specs.Grammar.{IsControl, is_control, IsRpc, is-rpc}
 use Rattle.rpc.specs.Encode.{encode_rpc, repeated}
 use Rattle.meaning.specs.Size.{records_in}
 use Rattle.canonical.specs.Means.{body-append, Sized, bytes_entries, bytes-body, bytes-here, bytes-there, fields-sized, found}
-use Rattle.canon.specs.Taken.{Within}
+use Rattle.canon.proofs.Taken.{Within}
 use Rattle.node.specs.Gateway.{controlled, advertisement, request}
 use Rattle.node.specs.Calls.{bytes_for}
 use Rattle.node.specs.WireLaws.{advertisement-bytes, request-bytes}

@@ -31,7 +31,7 @@ use Rattle.schema.specs.Accept.{accept_of}
 use Rattle.rpc.specs.Rpc.{Rpc}
 use Rattle.rpc.specs.Encode.{encode_rpc, repeated}
 use Rattle.meaning.specs.Decoded.{Refusal, Gated, refusal_gated, gated_bound, refusal-within}
-use Rattle.canon.specs.Taken.{Within, taken, taken-exactly, refused-exactly}
+use Rattle.canon.proofs.Taken.{Within, taken, taken-exactly, refused-exactly}
 use Rattle.node.specs.Parts.{once, without}
 use Rattle.node.specs.PartsLaws.{fitting-stop, without-none}
 use Rattle.node.specs.declared.Node.{Node}

@@ -18,7 +18,8 @@ use Rattle.schema.specs.declared.Kind.TheVariants as kind
 use Rattle.schema.specs.declared.Place.{Place}
 use Rattle.schema.specs.declared.Place.TheVariants as place
 use Rattle.schema.specs.Slots.{slots_of}
-use Rattle.schema.specs.SlotsLaws.{PlaceInside, slots_inside}
+use Rattle.schema.specs.SlotsLaws.{PlaceInside}
+use Rattle.schema.proofs.SlotsLaws.{slots_inside}
 use Rattle.rpc.specs.Rpc.{RawMessage}
 use Rattle.rpc.specs.Grammar.{IsMessage, is-message, Each, none_left, ◌and◌}
 use Rattle.meaning.specs.ReadBack.{bytes_at}

@@ -17,7 +17,7 @@ use Rattle.protobuf.specs.Encode.{bytes_field}
 use Rattle.rpc.specs.Rpc.{RawMessage, Rpc}
 use Rattle.rpc.specs.Encode.{encode_rpc, repeated}
 use Rattle.meaning.specs.Decoded.{Refusal}
-use Rattle.canon.specs.Taken.{Within}
+use Rattle.canon.proofs.Taken.{Within}
 use Rattle.node.specs.Gateway.{advertisement, reply_room}
 
 -- ---- the buffer as it is left: k bytes at the front that are an RPC, and after them what was there

@@ -30,8 +30,8 @@ use Rattle.meaning.specs.Size.{records_in}
 use Rattle.meaning.specs.Modes.{pairs_of, plain-message}
 use Rattle.schema.specs.Accept.{accept_of}
 use Rattle.canon.specs.Canon.{canon_body}
-use Rattle.canon.specs.Written.{canon-written}
-use Rattle.canon.specs.Taken.{Within}
+use Rattle.canon.proofs.Written.{canon-written}
+use Rattle.canon.proofs.Taken.{Within}
 use Rattle.mcache.specs.declared.MessageCache.{MessageCache}
 use Rattle.mcache.specs.State.{message_in, ring_of, message_id_size}
 use Rattle.mcache.specs.StateLaws.{Tests, fine-tests}

@@ -22,8 +22,8 @@ use Rattle.schema.specs.Accept.{accept_of}
 use Rattle.canon.specs.Canon.{canon_body}
 use Rattle.canon.specs.Lengths.{bytes_field_mono}
 use Rattle.canon.specs.Shorter.{repeated-append, field-sum, never_longer}
-use Rattle.canon.specs.Written.{canon-written}
-use Rattle.canon.specs.Taken.{Within, taken-exactly}
+use Rattle.canon.proofs.Written.{canon-written}
+use Rattle.canon.proofs.Taken.{Within, taken-exactly}
 use Rattle.node.specs.Parts.{at_path, once_after, once}
 use Rattle.node.specs.PartsLaws.{once-again, once-new}
 use Rattle.node.specs.State.{seen_ring}

@@ -1,6 +1,6 @@
 -- To be believed: Count, Spots, Accept, Told. Cited by contracts, and joined to these by theorems: Schema (the table; by
--- Decoded of meaning), Slots (by Back of meaning), Kinds, Made. Theorems: TextLaws, Modes, Rows. On the way to them: SchemaLaws,
--- CountLaws, SpotsLaws, AcceptLaws, SlotsLaws.
+-- Decoded of meaning), Slots (by Back of meaning), Kinds, Made; SlotsLaws (a place within the message). Theorems: TextLaws,
+-- Modes, Rows. On the way to them: SchemaLaws, CountLaws, SpotsLaws, AcceptLaws.
 pub mod Told
 pub mod Schema
 pub mod Kinds

@@ -16,7 +16,8 @@ use Rattle.schema.specs.declared.Held.{Held}
 use Rattle.schema.specs.declared.Held.TheVariants.{Nothing}
 use Rattle.schema.specs.Schema.{row_of, held_of}
 use Rattle.schema.specs.Slots.{slots_of}
-use Rattle.schema.specs.SlotsLaws.{SlotsInside, slots_inside}
+use Rattle.schema.specs.SlotsLaws.{SlotsInside}
+use Rattle.schema.proofs.SlotsLaws.{slots_inside}
 use Rattle.canon.specs.Canon.{in_order, own_part, each_along, each_of, held_part, part_with, canon}
 use Rattle.canon.specs.CanonLaws.{canon-fields}
 use Rattle.encode.specs.Puts.{Puts, puts_none, puts_same, fits-same, fits-first, going-same, going-none, going-all, going-fits, going-part}

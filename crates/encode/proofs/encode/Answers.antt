@@ -5,7 +5,7 @@ use mathlib.Core.List.{List}
 use Rattle.basis.specs.Writing.{answer, written}
 use Rattle.protobuf.specs.Encode.{of_written}
 use Rattle.schema.specs.AcceptLaws.{accept_small}
-use Rattle.canon.specs.Taken.{taken-shorter}
+use Rattle.canon.proofs.Taken.{taken-shorter}
 use Rattle.encode.specs.Encode.{encode_checked, encode_answer, encoded_checked, encode_left}
 use Rattle.encode.proofs.Taken.{taken-body}
 use Rattle.encode.proofs.encode.Goals as goal

@@ -6,7 +6,7 @@ use Rattle.basis.specs.Writing.{answer, written}
 use Rattle.ids.specs.Ids.{of_written}
 use Rattle.schema.specs.AcceptLaws.{accept_small}
 use Rattle.ids.specs.IdLaws.{message-inside}
-use Rattle.canon.specs.Taken.{signed-shorter}
+use Rattle.canon.proofs.Taken.{signed-shorter}
 use Rattle.encode.proofs.Signs.{part_small, sign_refused, sign_missing, sign_found}
 use Rattle.encode.proofs.Taken.{taken-message}
 use Rattle.encode.proofs.sign_bytes.Goals as goal

@@ -45,7 +45,7 @@ use Rattle.agreement.specs.HandOver.{request-rpc, request-taken, reply-has, repl
 use Rattle.agreement.specs.HandOver.{lacks-exactly}
 use Rattle.agreement.specs.Fifteen.{fifteen_fit}
 use Rattle.agreement.specs.Delivered.{Delivers, reply-taken}
-use Rattle.agreement.specs.Lacking.{Got, fine, told-got}
+use Rattle.agreement.proofs.Lacking.{Got, fine, told-got}
 
 -- ---- a reply
 room_full : (out : List ℕ) → 65536 ≤ length out → room_of out ≡ 65536

@@ -14,13 +14,14 @@ use Rattle.mcache.specs.GossipLaws.{among_in}
 use Rattle.node.specs.Gateway.{Gateway, knows}
 use Rattle.node.specs.Calls.{max_rpc_size}
 use Rattle.history.specs.History.{State, gateway_of, Settings, Call, after_all, readings}
-use Rattle.history.specs.Laws.{after-append}
+use Rattle.history.proofs.Laws.{after-append}
 use Rattle.agreement.specs.Premises.{MessageSet, Alike, Clock, Premises}
 use Rattle.agreement.specs.Round.{missing, lacked, Play, Fair, turned, teller_rounds}
 use Rattle.agreement.specs.Rows.{rows_under, rows-known}
-use Rattle.agreement.specs.Holding.{set-alike, Holding, holding-all}
-use Rattle.agreement.specs.Identical.{Kept, rows-kept, rows-entry, none-missing, Identical, identical-bytes}
-use Rattle.agreement.specs.CatchUp.{teller-stays, CaughtUp, all_asked, all_told, caught_up, all-arrived}
+use Rattle.agreement.specs.Holding.{Holding}
+use Rattle.agreement.proofs.Holding.{set-alike, holding-all}
+use Rattle.agreement.proofs.Identical.{Kept, rows-kept, rows-entry, none-missing, Identical, identical-bytes}
+use Rattle.agreement.proofs.CatchUp.{teller-stays, CaughtUp, all_asked, all_told, caught_up, all-arrived}
 
 -- ---- what a gateway does not lack it does not lack after the other got more, where it had that itself
 all_known : (mode : Mode) (topic : List ℕ) (g : Gateway) (cs : List Cached)

@@ -4,16 +4,17 @@ use Rattle.std.specs.Prelude.{ℕ, ◌≡◌, refl, true, List, [], ◌∷◌, �
 use Rattle.std.proofs.Common.{sym, ap, subst, ◌∙◌, arith}
 use Rattle.basis.specs.declared.Dialect.{Dialect}
 use Rattle.rows.specs.Ids.{among, distinct}
-use Rattle.canon.specs.Taken.{Within}
+use Rattle.canon.proofs.Taken.{Within}
 use Rattle.mcache.specs.Messages.{ids_of}
 use Rattle.node.specs.Gateway.{told_of, lacking, request}
 use Rattle.history.specs.History.{State, gateway_of, Settings, Call, advertise, ask, after_all, refusal_at}
 use Rattle.agreement.specs.Premises.{MessageSet, Alike, Premises}
 use Rattle.agreement.specs.Round.{lacked, Play, Fair, advert_of, request_of}
-use Rattle.agreement.specs.Holding.{set-alike, Holding, holding-all}
+use Rattle.agreement.specs.Holding.{Holding}
+use Rattle.agreement.proofs.Holding.{set-alike, holding-all}
 use Rattle.agreement.specs.HandOver.{asked_something, request-meant}
-use Rattle.agreement.specs.Lacking.{fine, wants-exactly, wants-once, wants-count}
-use Rattle.agreement.specs.Played.{advert-done, request-done, requested}
+use Rattle.agreement.proofs.Lacking.{fine, wants-exactly, wants-once, wants-count}
+use Rattle.agreement.proofs.Played.{advert-done, request-done, requested}
 
 pub record ExactRequest (p : Play) (a b : State) : Type 0 where
   -- neither call is refused

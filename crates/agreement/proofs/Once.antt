@@ -16,10 +16,12 @@ use Rattle.node.specs.declared.Admit.TheVariants as answer
 use Rattle.history.specs.History.{State, Settings, Call, admit, heartbeat, advertise, ask, serve, after_all, reading}
 use Rattle.history.specs.History.{readings, first_of, beat, beats, refusal_at, brought, is_that, brings, times_got}
 use Rattle.history.specs.History.{after, explain, answer_in, is_new, is_duplicate, count_at, times, times_new, times_duplicate}
-use Rattle.history.specs.Laws.{readings-append, beats-append, brings_that}
+use Rattle.history.proofs.Laws.{readings-append, beats-append, brings_that}
 use Rattle.agreement.specs.Premises.{MessageSet, MemberAt, Members, none_left, member, Premises}
-use Rattle.agreement.specs.Holding.{with_got, got_by, got_next, got_all, Holding, admit-answers, admit-done}
-use Rattle.agreement.specs.Holding.{holding-start, holding-next, members-here, members-rest, past_all, past_next, holding_on}
+use Rattle.agreement.specs.Holding.{with_got, got_by, got_next, got_all, Holding}
+use Rattle.agreement.proofs.Holding.{admit-answers, admit-done}
+use Rattle.agreement.specs.Holding.{past_all, past_next}
+use Rattle.agreement.proofs.Holding.{holding-start, holding-next, members-here, members-rest, holding_on}
 
 -- ---- a message among those got, and one more got
 pub with-again : (m p : List ℕ) (got : List (List ℕ)) → among m got ≡ true → among m (with_got p got) ≡ true

@@ -19,18 +19,19 @@ use Rattle.node.specs.State.{legal_settings, rises_from}
 use Rattle.node.specs.Calls.{taken}
 use Rattle.history.specs.History.{State, gateway_of, Settings, Fresh, Call, admit, ask, plan_in, after_all, readings}
 use Rattle.history.specs.History.{first_of, beats as beatsIn, brought}
-use Rattle.history.specs.Laws.{node-clock, started_by, fresh_keeps, fresh-starts, fresh-clock, fresh-flags, admit-leaves}
-use Rattle.history.specs.Laws.{brought_plan}
+use Rattle.history.proofs.Laws.{node-clock, started_by, fresh_keeps, fresh-starts, fresh-clock, fresh-flags, admit-leaves}
+use Rattle.history.proofs.Laws.{brought_plan}
 use Rattle.history.specs.Script.{Carries, Act, gets, calls_of, gateway_after, Written, nothing, got}
-use Rattle.history.specs.ScriptLaws.{fresh-leaves}
+use Rattle.history.proofs.ScriptLaws.{fresh-leaves}
 use Rattle.history.specs.Samples.{start, start-fresh}
 use Rattle.agreement.specs.Premises.{MessageSet, Members, none_left, member, Clock, Premises}
 use Rattle.agreement.specs.Round.{missing, lacked, Fair, advert_of, asker_round, asker_rounds}
-use Rattle.agreement.specs.Holding.{member-some, got_all, past_all, Holding, holding-all}
-use Rattle.agreement.specs.Played.{one_round as one-asked}
-use Rattle.agreement.specs.CatchUp.{all_asked, all_told, CaughtUp, caught_up, all-arrived}
-use Rattle.agreement.specs.Script.{in_set, script_members}
-use Rattle.agreement.specs.Example.{topic, two-set, two_in, clock-by, buffer, play, fair_for}
+use Rattle.agreement.specs.Holding.{got_all, past_all, Holding}
+use Rattle.agreement.proofs.Holding.{member-some, holding-all}
+use Rattle.agreement.proofs.Played.{one_round as one-asked}
+use Rattle.agreement.proofs.CatchUp.{all_asked, all_told, CaughtUp, caught_up, all-arrived}
+use Rattle.agreement.proofs.Script.{in_set, script_members}
+use Rattle.agreement.proofs.Example.{topic, two-set, two_in, clock-by, buffer, play, fair_for}
 
 -- ---- the messages m and k, their ids i and j, and a body that brings each, under some flags; the first comes also
 -- with this word of the host

@@ -6,13 +6,14 @@ use Rattle.std.proofs.Common.{sym, ap, subst, ◌∙◌, append-nil, append_asso
 use Rattle.basis.specs.Cases.{either, clash}
 use Rattle.rows.specs.Ids.{among}
 use Rattle.history.specs.History.{State, Settings, Call, after, after_all, readings, beats, NoneRefused, all_done}
-use Rattle.history.specs.Laws.{after-append, readings-append, beats-append, done-append, admits-beats}
+use Rattle.history.proofs.Laws.{after-append, readings-append, beats-append, done-append, admits-beats}
 use Rattle.agreement.specs.Premises.{MessageSet, Alike, Members, none_left, member, Clock, Premises}
 use Rattle.agreement.specs.Round.{lacked, Play, onward, Fair, fair-onward, reply_of, served_count, asker_round}
 use Rattle.agreement.specs.Round.{teller_round, asker_rounds, teller_rounds}
-use Rattle.agreement.specs.Holding.{got_next, got_all, past_all, set-alike, Holding, holding-fresh}
-use Rattle.agreement.specs.Holding.{holding_on, holding-all}
-use Rattle.agreement.specs.Arrive.{round_done}
+use Rattle.agreement.specs.Holding.{got_next, got_all, past_all, Holding}
+use Rattle.agreement.proofs.Holding.{set-alike, holding-fresh}
+use Rattle.agreement.proofs.Holding.{holding_on, holding-all}
+use Rattle.agreement.proofs.Arrive.{round_done}
 
 -- ---- calls, and then more calls
 pub got-append : (flags : ℕ) (got : List (List ℕ)) (cs ds : List Call)

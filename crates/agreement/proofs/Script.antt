@@ -3,10 +3,10 @@ use Rattle.std.specs.Prelude.{◌≡◌, refl, Bool, true, ◌&&◌, List, [], �
 use Rattle.basis.specs.Cases.{both}
 use Rattle.rows.specs.Ids.{among}
 use Rattle.history.specs.History.{admit, heartbeat, ask, brought}
-use Rattle.history.specs.Laws.{carried-brought}
+use Rattle.history.proofs.Laws.{carried-brought}
 use Rattle.history.specs.Script.{Act, gets, beats, asks, calls_of, Written, nothing, got, beaten, asked}
 use Rattle.agreement.specs.Premises.{Members, none_left, member}
-use Rattle.agreement.specs.Holding.{member-none, member-some}
+use Rattle.agreement.proofs.Holding.{member-none, member-some}
 
 unfoldable pub in_set : List (List ℕ) → List Act → Bool
 in_set set [] = true

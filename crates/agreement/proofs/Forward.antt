@@ -21,7 +21,8 @@ use Rattle.node.specs.declared.Admit.TheVariants as answer
 use Rattle.node.specs.declared.Fault.{Fault}
 use Rattle.node.specs.Calls.{no, on_lent, lent_of, plan_fit, plan_at, plan_body, planned}
 use Rattle.history.specs.History.{State, Settings, plan_in}
-use Rattle.agreement.specs.Holding.{Holding, admit-forward}
+use Rattle.agreement.specs.Holding.{Holding}
+use Rattle.agreement.proofs.Holding.{admit-forward}
 
 module _ (n : Node) (at : ℕ) (h : n.clock ≤ at) (k : ℕ) where
   of-fit : (p : List ℕ) (r : Admission) → plan_fit n at p r ≡ no (answer.ClockBack k) → ⊥

@@ -26,25 +26,26 @@ use Rattle.node.specs.State.{rises_from}
 use Rattle.node.specs.Calls.{told_in, bytes_for, advertise_bytes}
 use Rattle.node.specs.Laws.{told-gateway}
 use Rattle.history.specs.History.{State, gateway_of, Call, admit, ask, after, after_all, readings, first_of}
-use Rattle.history.specs.Laws.{started_by}
+use Rattle.history.proofs.Laws.{started_by}
 use Rattle.history.specs.Script.{Act, gets, asks, calls_of, gateway_after, Written, nothing, got, asked}
-use Rattle.history.specs.ScriptLaws.{fresh-leaves}
+use Rattle.history.proofs.ScriptLaws.{fresh-leaves}
 use Rattle.history.specs.Samples.{signature, start}
 use Rattle.agreement.specs.Premises.{Clock}
 use Rattle.agreement.specs.Round.{missing, lacked, advert_by, advert_of, request_of, reply_of, asker_round}
 use Rattle.agreement.specs.Round.{teller_round, asker_rounds, teller_rounds}
-use Rattle.agreement.specs.Holding.{Holding, holding-all, got_all, past_all}
+use Rattle.agreement.specs.Holding.{Holding, got_all, past_all}
+use Rattle.agreement.proofs.Holding.{holding-all}
 use Rattle.agreement.specs.HandOver.{request-is}
-use Rattle.agreement.specs.Lacking.{fine}
-use Rattle.agreement.specs.Played.{advertise-is, requested, one-replied, one_round as one-asked}
-use Rattle.agreement.specs.Request.{request-is_exact}
-use Rattle.agreement.specs.CatchUp.{all_asked, all_told, CaughtUp, caught_up, all-arrived}
-use Rattle.agreement.specs.Identical.{Identical, identical-bytes}
-use Rattle.agreement.specs.Example.{topic, first, second, messages, first-id, second-id, first_body}
-use Rattle.agreement.specs.Example.{second-body, first-carried, second-carried, message-set, settings_a_lem}
-use Rattle.agreement.specs.Example.{settings_b_lem, fresh_a, fresh_b, calls_a_lem, calls_b_lem, script_a, script_b}
-use Rattle.agreement.specs.Example.{calls_a-written, calls_b-written, written_a, written_b, clock-by, premises_a}
-use Rattle.agreement.specs.Example.{premises_b, buffer, buffer_full, play, fair, alike}
+use Rattle.agreement.proofs.Lacking.{fine}
+use Rattle.agreement.proofs.Played.{advertise-is, requested, one-replied, one_round as one-asked}
+use Rattle.agreement.proofs.Request.{request-is_exact}
+use Rattle.agreement.proofs.CatchUp.{all_asked, all_told, CaughtUp, caught_up, all-arrived}
+use Rattle.agreement.proofs.Identical.{Identical, identical-bytes}
+use Rattle.agreement.proofs.Example.{topic, first, second, messages, first-id, second-id, first_body}
+use Rattle.agreement.proofs.Example.{second-body, first-carried, second-carried, message-set, settings_a_lem}
+use Rattle.agreement.proofs.Example.{settings_b_lem, fresh_a, fresh_b, calls_a_lem, calls_b_lem, script_a, script_b}
+use Rattle.agreement.proofs.Example.{calls_a-written, calls_b-written, written_a, written_b, clock-by, premises_a}
+use Rattle.agreement.proofs.Example.{premises_b, buffer, buffer_full, play, fair, alike}
 
 -- ---- the gateways after these calls
 abbrev pub at_a_lem : State

@@ -31,11 +31,11 @@ use Rattle.history.specs.History.{Call, admit, after_all, brought, times_got, ti
 use Rattle.history.specs.Samples.{unsigned, id_of, unsigned_body, unsigned-carried, start}
 use Rattle.agreement.specs.Premises.{MessageSet, Alike, Premises}
 use Rattle.agreement.specs.Round.{missing, lacked, Fair}
-use Rattle.agreement.specs.Once.{new-exactly-once}
-use Rattle.agreement.specs.CatchUp.{all_asked, all_told, CaughtUp}
-use Rattle.agreement.specs.Example.{topic, upto-bytes, play}
-use Rattle.agreement.specs.Pair.{Pair, settings_a, settings_b, calls_a, calls_b, at_a, at_b, gateway_a, gateway_b}
-use Rattle.agreement.specs.Pair.{reading, message-set, premises_a, premises_b, fair, a_lacks, round_done, none-lacking}
+use Rattle.agreement.proofs.Once.{new-exactly-once}
+use Rattle.agreement.proofs.CatchUp.{all_asked, all_told, CaughtUp}
+use Rattle.agreement.proofs.Example.{topic, upto-bytes, play}
+use Rattle.agreement.proofs.Pair.{Pair, settings_a, settings_b, calls_a, calls_b, at_a, at_b, gateway_a, gateway_b}
+use Rattle.agreement.proofs.Pair.{reading, message-set, premises_a, premises_b, fair, a_lacks, round_done, none-lacking}
 
 -- ---- the messages: the samples without a signature, with seqno 1 and 2
 first-bytes : Bytes (unsigned 1)

@@ -38,13 +38,13 @@ use Rattle.node.specs.Gateway.{started, is_new, after_admit, after_beat}
 use Rattle.node.specs.State.{legal_settings, rises_from}
 use Rattle.history.specs.History.{State, Settings, Fresh, Call, admit, heartbeat, readings, beats as beatsIn, times_got}
 use Rattle.history.specs.History.{times_new, times_duplicate}
-use Rattle.history.specs.Laws.{started_by}
+use Rattle.history.proofs.Laws.{started_by}
 use Rattle.history.specs.Script.{Carries, Act, gets, beats, calls_of, got_in, new_in, Written, nothing, got, beaten}
-use Rattle.history.specs.ScriptLaws.{fresh-acted, fresh-new}
+use Rattle.history.proofs.ScriptLaws.{fresh-acted, fresh-new}
 use Rattle.history.specs.Samples.{signature, first-sender, start, start-fresh}
 use Rattle.agreement.specs.Premises.{MessageSet, Members, Alike, Clock, Premises}
 use Rattle.agreement.specs.Round.{Play, Fair}
-use Rattle.agreement.specs.Script.{in_set, script_members}
+use Rattle.agreement.proofs.Script.{in_set, script_members}
 
 -- ---- the messages
 abbrev pub topic : List ℕ

@@ -30,16 +30,16 @@ use Rattle.seen.specs.Entries.{holds, until, inserted, live}
 use Rattle.mcache.specs.Messages.{held, put, get, carrying, enter_id, in_order, gossip_ids}
 use Rattle.node.specs.Gateway.{Gateway, started, is_new, after_admit, told_of, knows, lacking, having}
 use Rattle.history.specs.History.{Call, after_all}
-use Rattle.history.specs.Laws.{carried-brought}
+use Rattle.history.proofs.Laws.{carried-brought}
 use Rattle.history.specs.Script.{Carries}
 use Rattle.history.specs.Samples.{signature, start}
 use Rattle.agreement.specs.Premises.{MessageSet, Alike, Premises}
 use Rattle.agreement.specs.Round.{missing, lacked, Fair}
-use Rattle.agreement.specs.CatchUp.{all_asked, all_told, CaughtUp}
-use Rattle.agreement.specs.Example.{topic, second-sender, first, first-id, second-id, first_body}
-use Rattle.agreement.specs.Example.{upto-bytes, ids-differ, play}
-use Rattle.agreement.specs.Pair.{Pair, settings_a, settings_b, calls_a, calls_b, at_a, at_b, gateway_a, gateway_b}
-use Rattle.agreement.specs.Pair.{reading, message-set, premises_a, premises_b, fair, a_lacks, round_done, none-lacking}
+use Rattle.agreement.proofs.CatchUp.{all_asked, all_told, CaughtUp}
+use Rattle.agreement.proofs.Example.{topic, second-sender, first, first-id, second-id, first_body}
+use Rattle.agreement.proofs.Example.{upto-bytes, ids-differ, play}
+use Rattle.agreement.proofs.Pair.{Pair, settings_a, settings_b, calls_a, calls_b, at_a, at_b, gateway_a, gateway_b}
+use Rattle.agreement.proofs.Pair.{reading, message-set, premises_a, premises_b, fair, a_lacks, round_done, none-lacking}
 
 -- ---- the messages: the example's first, and one with seqno 2, topic `t` and, before its signature, a group of number
 -- 15 with one field in it

@@ -71,22 +71,23 @@ use Rattle.node.specs.Calls.{serve_answer, serve_left}
 use Rattle.history.specs.History.{State, gateway_of, Settings, Fresh, Call, admit, heartbeat, advertise, ask, serve}
 use Rattle.history.specs.History.{explain, plan_in, after, after_all, refusal_at, brought, brings, is_new as newAnswer, times}
 use Rattle.history.specs.History.{times_new, served_bytes, served_messages, admits}
-use Rattle.history.specs.Laws.{after-append, started_by, history_keeps, fresh-starts, refused-stays, after-flags}
-use Rattle.history.specs.Laws.{history_flags, brings-exactly, fresh_keeps, fresh-flags}
+use Rattle.history.proofs.Laws.{after-append, started_by, history_keeps, fresh-starts, refused-stays, after-flags}
+use Rattle.history.proofs.Laws.{history_flags, brings-exactly, fresh_keeps, fresh-flags}
 use Rattle.history.specs.Samples.{signature, first-sender, message, unsigned, id_of, unsigned_body, message-carried, start}
 use Rattle.agreement.specs.Round.{missing, lacked, Play, onward, Fair, fair-onward, advert_of, request_of, reply_of}
 use Rattle.agreement.specs.Round.{served_count, asker_round, teller_round, asker_rounds, teller_rounds}
-use Rattle.agreement.specs.Holding.{Holding, holding-fresh}
-use Rattle.agreement.specs.Played.{one-replied, one_round}
-use Rattle.agreement.specs.CatchUp.{teller-stays}
+use Rattle.agreement.specs.Holding.{Holding}
+use Rattle.agreement.proofs.Holding.{holding-fresh}
+use Rattle.agreement.proofs.Played.{one-replied, one_round}
+use Rattle.agreement.proofs.CatchUp.{teller-stays}
 use Rattle.agreement.specs.Fifteen.{longest-field, some_fit, longest-fit}
-use Rattle.agreement.specs.Example.{second-id, settings_a_lem, fresh_a, fresh_b}
-use Rattle.agreement.specs.Example.{calls_b_lem, play, fair_for}
-use Rattle.agreement.specs.ExampleRound.{a_lacks_the_second, request-bytes}
-use Rattle.agreement.specs.ExampleRound.{at_a_lem as lacking-a, at_b as holding-it}
-use Rattle.agreement.specs.Pair.{at_a, gateway_a, a_is, holding_a}
-use Rattle.agreement.specs.ExampleUnsigned.{two as unsigned-two}
-use Rattle.agreement.specs.ExampleGroups.{grouped, grouped-body, turned as grouped-alone}
+use Rattle.agreement.proofs.Example.{second-id, settings_a_lem, fresh_a, fresh_b}
+use Rattle.agreement.proofs.Example.{calls_b_lem, play, fair_for}
+use Rattle.agreement.proofs.ExampleRound.{a_lacks_the_second, request-bytes}
+use Rattle.agreement.proofs.ExampleRound.{at_a_lem as lacking-a, at_b as holding-it}
+use Rattle.agreement.proofs.Pair.{at_a, gateway_a, a_is, holding_a}
+use Rattle.agreement.proofs.ExampleUnsigned.{two as unsigned-two}
+use Rattle.agreement.proofs.ExampleGroups.{grouped, grouped-body, turned as grouped-alone}
 
 -- ---- the small messages of the samples
 abbrev pub topic : List ℕ

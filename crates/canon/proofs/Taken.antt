@@ -24,7 +24,7 @@ use Rattle.ids.specs.Ids.{message_at}
 use Rattle.canon.specs.Canon.{canon, canon_body}
 use Rattle.canon.specs.Shorter.{never_longer}
 use Rattle.canon.specs.Messages.{message-found}
-use Rattle.canon.specs.Written.{canon-written, message-shorter}
+use Rattle.canon.proofs.Written.{canon-written, message-shorter}
 
 pub taken : {d : Dialect} {s : List ℕ} {x : Rpc} → Within d s x → accept_of d s ≡ Fine
 taken {d} {s} {x} w =

@@ -13,9 +13,9 @@ use Rattle.node.specs.Laws.{is_new_lem}
 use Rattle.history.specs.History.{State, gateway_of, Settings, Fresh, admit, heartbeat, plan_in, after, after_all}
 use Rattle.history.specs.History.{brought, brings, times_got, count_at, times, times_new, times_duplicate}
 use Rattle.history.specs.History.{is_new as newAnswer, is_duplicate}
-use Rattle.history.specs.Laws.{node-clock, started_by, Kept, after-keeps, fresh_keeps, fresh-starts, fresh-clock}
-use Rattle.history.specs.Laws.{fresh-flags, admit-leaves, admit-clock, beat-leaves, beat-clock, after-flags}
-use Rattle.history.specs.Laws.{carried-brought, brought_plan}
+use Rattle.history.proofs.Laws.{node-clock, started_by, Kept, after-keeps, fresh_keeps, fresh-starts, fresh-clock}
+use Rattle.history.proofs.Laws.{fresh-flags, admit-leaves, admit-clock, beat-leaves, beat-clock, after-flags}
+use Rattle.history.proofs.Laws.{carried-brought, brought_plan}
 use Rattle.history.specs.Script.{Act, gets, beats, asks, calls_of, gateway_after, got_by, got_in, new_by}
 use Rattle.history.specs.Script.{new_in}
 use Rattle.history.specs.Script.{Written, nothing, got, beaten, asked}

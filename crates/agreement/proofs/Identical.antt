@@ -22,10 +22,11 @@ use Rattle.history.specs.History.{State, gateway_of, Settings, Call, advertise, 
 use Rattle.agreement.specs.Premises.{MessageSet, Alike, Premises}
 use Rattle.agreement.specs.Round.{missing, lacked, advert_by}
 use Rattle.agreement.specs.Rows.{Rows, none, row, rows_under, rows-known}
-use Rattle.agreement.specs.Holding.{set-alike, Holding, holding-all}
+use Rattle.agreement.specs.Holding.{Holding}
+use Rattle.agreement.proofs.Holding.{set-alike, holding-all}
 use Rattle.agreement.specs.Sorted.{Carried, told-carried}
-use Rattle.agreement.specs.Lacking.{fine, all-recent}
-use Rattle.agreement.specs.Played.{advertise-done, advertise-is}
+use Rattle.agreement.proofs.Lacking.{fine, all-recent}
+use Rattle.agreement.proofs.Played.{advertise-done, advertise-is}
 
 -- ---- the rows, by message and by entry
 pub record Kept (flags : ℕ) (c : Cached) (got : List (List ℕ)) : Type 0 where

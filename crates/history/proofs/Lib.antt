@@ -1,0 +1,5 @@
+-- Theorems: Laws, Off, ScriptLaws, Arrival.
+pub mod Laws
+pub mod Off
+pub mod ScriptLaws
+pub mod Arrival
