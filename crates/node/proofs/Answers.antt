@@ -61,7 +61,7 @@ use Rattle.node.specs.declared.Explain.TheVariants as explain
 use Rattle.node.specs.Gateway.{form_of}
 use Rattle.node.specs.Unique.{Starts, Admits, Beats, Advertises, Explains}
 use Rattle.node.specs.Calls.{start_answer, start_node, right_sizes, lent_of, later_node, Plan, no, taken, plan_fit, planned, swept, held_at, admit_answer, admit_node, admit_seen, admit_cache, beat_answer, beat_node, advertise_bytes, advertised, advertise_answer, advertise_left, explain_answer}
-use Rattle.node.specs.StateLaws.{room_cap, room_whole, fine-tests, lent_ready}
+use Rattle.node.specs.StateLaws.{room_cap, room_whole, lent_ready}
 
 -- ---- start
 pub fresh-is : (ttl m h x f : ℕ) (s : SeenCache) (c : MessageCache) → s ≡ noIds → c ≡ noMessages h x f

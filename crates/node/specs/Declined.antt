@@ -1,7 +1,7 @@
 -- Serve with a second body: the messages whose ids it declines are left out, and count neither as written nor as left;
 -- of the others that are named and cached each is one of both, in order. With an empty one it is the scope's serve.
 use Rattle.std.specs.Prelude.{ℕ, ◌≡◌, refl, List, [], ◌∷◌, ◌++◌, map, Bool, true, false, cond, not, ◌&&◌, ◌||◌, take, drop, eqb}
-use Rattle.std.proofs.Common.{sym, ap, ap₂, ◌∙◌, arith, take-append-drop}
+use Rattle.std.proofs.Common.{sym, ap, ◌∙◌, arith, take-append-drop}
 use Rattle.std.proofs.Math.Bool.{and-false}
 use Rattle.std.proofs.lemmas.List.Edits.{sets}
 use Rattle.basis.specs.declared.Mode.{Mode}

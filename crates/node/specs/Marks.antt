@@ -2,7 +2,7 @@
 -- other way round; the cache, which goes by the id alone, keeps whichever came first; and which marks ask looks for.
 use Rattle.std.specs.Prelude.{ℕ, zero, suc, ◌-◌, ◌≤◌, ◌≡◌, Bool, true, not, ◌||◌, length, drop, leb}
 use Rattle.std.proofs.Math.Path.{refl, ap}
-use Rattle.std.proofs.Common.{sym, ◌∙◌, arith, drop_of_length-le}
+use Rattle.std.proofs.Common.{◌∙◌, arith, drop_of_length-le}
 use mathlib.Core.List.{List, [], ◌∷◌, ◌++◌, map-append}
 use Rattle.std.proofs.Math.Bool.{false}
 use borrow.Author.Tests.{leb-true, le-leb}

@@ -1,7 +1,7 @@
 -- Where the flags allow no unsigned message, a node is what it was before there were flags, in the mode that they name:
 -- each definition that reads them equals the one it was, which stands here.
 use Rattle.std.specs.Prelude.{ℕ, ◌≡◌, refl, List, [], ◌∷◌, Bool, true, false, cond, not}
-use Rattle.std.proofs.Common.{ap, ◌∙◌}
+use Rattle.std.proofs.Common.{ap}
 use Rattle.basis.specs.declared.Edition.{Edition}
 use Rattle.basis.specs.Dialect.{mode_of, spoken}
 use Rattle.basis.specs.Cases.{either}
@@ -14,7 +14,7 @@ use Rattle.ids.specs.declared.MessageAt.{MessageAt}
 use Rattle.ids.specs.declared.MessageAt.TheVariants as found
 use Rattle.ids.specs.Ids.{message_at}
 use Rattle.admission.specs.Flags.{allows_unsigned}
-use Rattle.admission.specs.Admission.{admission_of, is_signed}
+use Rattle.admission.specs.Admission.{is_signed}
 use Rattle.admission.specs.FlagLaws.{admission_was, admission_off}
 use Rattle.seen.specs.Entries.{holds, inserted, live}
 use Rattle.mcache.specs.Messages.{put}
@@ -22,7 +22,7 @@ use Rattle.node.specs.declared.Node.{Node}
 use Rattle.node.specs.declared.Fault.{Fault}
 use Rattle.node.specs.declared.Admit.TheVariants as admit
 use Rattle.node.specs.Gateway.{Gateway, form_of, is_new, after_admit, lacking}
-use Rattle.node.specs.Calls.{lent_of, on_lent, Plan, no, taken, plan_fit, plan_at, plan_body, planned, unseen_from, known_in}
+use Rattle.node.specs.Calls.{lent_of, on_lent, Plan, no, plan_fit, plan_at, plan_body, planned, unseen_from, known_in}
 use Rattle.node.specs.Laws.{Takes}
 use Rattle.node.specs.Marks.{knows_off}
 use Rattle.admission.specs.AdmissionLaws.{fit-signed}

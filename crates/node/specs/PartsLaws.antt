@@ -32,7 +32,7 @@ use Rattle.schema.specs.declared.Kind.TheVariants as kind
 use Rattle.schema.specs.declared.Form.{Form}
 use Rattle.schema.specs.declared.Form.TheVariants.{Anew, Merged}
 use Rattle.schema.specs.declared.Role.TheVariants.{MessageId, Sub}
-use Rattle.schema.specs.declared.Counted.TheVariants.{Records, Refused}
+use Rattle.schema.specs.declared.Counted.TheVariants.{Records}
 use Rattle.schema.specs.Schema.{role_of, own_of}
 use Rattle.schema.specs.Count.{role_count, count_along, counted}
 use Rattle.schema.specs.CountLaws.{count_along_lem, plus-fits, then-fits}

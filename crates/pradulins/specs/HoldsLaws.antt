@@ -26,7 +26,6 @@ use Rattle.node.specs.Told.{start_told, fault_told, lent_told}
 use Rattle.node.specs.Calls.{lent_of, on_lent, start_answer}
 use Rattle.stored.specs.Layout.{node_in, node_bytes, head_of, Fits}
 use Rattle.stored.specs.LayoutLaws.{stored_loaded}
-use Rattle.pradulins.specs.Handed.{handed}
 use Rattle.pradulins.specs.Holds.{is_settled, settings_told, flags_told, state_told}
 use Rattle.pradulins.specs.Unique.{Starts, Settles}
 

@@ -3,8 +3,6 @@
 use Rattle.std.specs.Prelude.{ℕ, zero, suc, ◌^◌, ◌<◌, ◌≡◌, List, [], ◌∷◌, ◌++◌, length, get_or, take, drop}
 use Rattle.basis.specs.Little.{little, bytes_of}
 use Rattle.protobuf.specs.Walk.{between}
-use Rattle.seen.specs.declared.SeenCache.{SeenCache}
-use Rattle.mcache.specs.declared.MessageCache.{MessageCache}
 use Rattle.node.specs.declared.Node.{Node}
 
 -- ---- numbers as bytes

@@ -1,5 +1,4 @@
 -- `cached` meets its contract. The loop's invariant: the messages in `to`, and then those that are cached of the ids in `from` from i on, are all.
-use Prim.Native.Nat.{◌-◌}
 use mathlib.Core.Path.{refl}
 use native.Mathlib.Omega.{arith}
 use Rattle.node.proofs.Serving.{found_all, found-room, found_turn, found-done}

@@ -1,5 +1,4 @@
 -- `node::emit_ids` meets its contract: what is left of the ids, written at the end of what was written, makes all of them.
-use Prim.Native.Nat.{◌-◌}
 use mathlib.Core.Path.{refl}
 use native.Mathlib.Omega.{arith}
 use Rattle.encode.specs.Puts.{going-all, going-none}

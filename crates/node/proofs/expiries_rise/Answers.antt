@@ -1,5 +1,5 @@
 -- `node::expiries_rise` meets its contract: what is left of the expiries rises from the last one exactly where all of them rise.
-use Prim.Native.Nat.{ℕ, ◌-◌}
+use Prim.Native.Nat.{ℕ}
 use mathlib.Core.Path.{refl, ap}
 use lib.ListN.{get_or}
 use native.Mathlib.Omega.{arith}

@@ -1,5 +1,4 @@
 -- `unseen` meets its contract. The loop's invariant: the ids in `to`, and then those of `from` from i on that are not seen, are all that are not.
-use Prim.Native.Nat.{◌-◌}
 use mathlib.Core.Path.{refl}
 use native.Mathlib.Omega.{arith}
 use Rattle.node.proofs.Asking.{picked_all, picked_room, picked_turn, picked_done, unseen_none, unseen_turn}

@@ -1,5 +1,4 @@
 -- `stored::read_halves` meets its contract. The invariant: the first i numbers are there.
-use Prim.Native.Nat.{◌-◌}
 use mathlib.Core.Path.{refl}
 use borrow.Author.Rules.{rules}
 use Rattle.stored.specs.Layout.{gathered}

@@ -1,5 +1,4 @@
 -- `stored::store` meets its contract.
-use Prim.Native.Nat.{ℕ}
 use native.Mathlib.Omega.{arith}
 use Rattle.stored.specs.Layout.{head_of}
 use Rattle.stored.proofs.Parts.{node-written}

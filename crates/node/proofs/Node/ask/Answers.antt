@@ -1,5 +1,4 @@
 -- `ask` meets its contract: the lent node and its stores, the body, and then the request.
-use Prim.Native.Nat.{ℕ}
 use mathlib.Core.Path.{refl, sym, ◌∙◌}
 use Rattle.basis.specs.Dialect.{spoken}
 use Rattle.schema.specs.AcceptLaws.{accept_small}

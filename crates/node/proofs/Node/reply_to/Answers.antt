@@ -1,6 +1,5 @@
 -- `reply_to` meets its contract: the ids that the body names, each once, those that the second one does not decline, the messages that are cached of
 -- them, and those that fit written.
-use Prim.Native.Nat.{ℕ}
 use mathlib.Core.Path.{sym}
 use mathlib.Core.List.{[], ◌∷◌}
 use native.Mathlib.Omega.{arith}

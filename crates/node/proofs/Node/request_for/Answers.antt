@@ -1,6 +1,4 @@
 -- `request_for` meets its contract: the ids that the body names, each once, those that are not seen, and the request for them measured and written.
-use Prim.Native.Nat.{ℕ}
-use mathlib.Core.Path.{sym}
 use mathlib.Core.List.{[], ◌∷◌}
 use native.Mathlib.Omega.{arith}
 use Rattle.node.specs.PartsLaws.{parts_none}

@@ -1,5 +1,4 @@
 -- `serve` meets its contract: the lent node and its stores, the body, and then the second body and the reply.
-use Prim.Native.Nat.{ℕ}
 use mathlib.Core.Path.{refl, sym, ◌∙◌}
 use Rattle.basis.specs.Dialect.{spoken}
 use Rattle.node.specs.PartsLaws.{path-accepted}

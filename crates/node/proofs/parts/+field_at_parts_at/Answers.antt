@@ -1,10 +1,10 @@
-use Rattle.std.proofs.Common.{◌≡◌, List, ◌++◌, ◌≤◌, ℕ, length, sym, ap, ◌∙◌, arith, rules}
+use Rattle.std.proofs.Common.{◌≡◌, List, ◌++◌, ◌≤◌, ℕ, length, sym, ap, ◌∙◌, arith}
 use Rattle.protobuf.specs.Laws.{field-stands}
 use Rattle.protobuf.specs.Walk.{between}
 use Rattle.protobuf.specs.WalkLaws.{between-length}
 use Rattle.node.specs.Parts.{parts_in}
 use Rattle.node.specs.PartsLaws.{path-end, path-refused, path-done}
-use Rattle.node.proofs.Turns.{field-no, field_other, tail-size, field-inside, field-there, none_more, one-room, one_more_lem, walked_all, walked-done, walked-room, walked-turn}
+use Rattle.node.proofs.Turns.{tail-size, field-inside, field-there, one-room, one_more_lem, walked_all, walked-done, walked-room, walked-turn}
 use Rattle.node.proofs.parts.+field_at_parts_at.Goals as goal
 
 pub field_at-parts_at-requires : goal.field_at-parts_at-requires

@@ -1,6 +1,5 @@
 -- `first_mentions` meets its contract. The outer loop's invariant: the parts kept, and then those from i on that are not among them, are all of the
 -- parts once. The inner loop's: a part is among those kept where it is among those from j on.
-use Prim.Native.Nat.{◌-◌}
 use mathlib.Core.Path.{refl}
 use native.Mathlib.Omega.{arith}
 use Rattle.node.specs.Parts.{part_at}

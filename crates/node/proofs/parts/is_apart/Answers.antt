@@ -1,5 +1,4 @@
 -- `is_apart` meets its contract. The loop's invariant: the bytes are among the parts where they are among those from i on.
-use Prim.Native.Nat.{◌-◌}
 use mathlib.Core.Path.{refl, sym, ap}
 use mathlib.Core.Bool.{not}
 use native.Mathlib.Omega.{arith}

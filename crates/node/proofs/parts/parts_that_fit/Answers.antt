@@ -1,5 +1,4 @@
 -- `parts_that_fit` meets its contract. The loop's invariant: those that fit are the parts passed and those that fit of the rest.
-use Prim.Native.Nat.{◌-◌}
 use mathlib.Core.Path.{sym}
 use native.Mathlib.Omega.{arith}
 use native.Mathlib.Nat.{zero-add}

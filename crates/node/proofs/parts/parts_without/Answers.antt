@@ -1,6 +1,5 @@
 -- `parts_without` meets its contract. The loop's invariant: the parts in `to`, and then those of `from` from i on that are not among the others,
 -- are all that are not.
-use Prim.Native.Nat.{◌-◌}
 use mathlib.Core.Path.{refl}
 use native.Mathlib.Omega.{arith}
 use Rattle.node.proofs.Asking.{picked_all, picked_room, picked_turn, picked_done, without_end, without-turn}
