@@ -1,5 +1,4 @@
 -- `play` is safe and ends: the buffers keep their lengths.
-use Prim.Native.Nat.{◌-◌}
 use Rattle.lines.specs.Laws.{filled}
 use Rattle.play.proofs.play.Goals as goal
 
