@@ -18,7 +18,6 @@ use Rattle.admission.specs.Admission.{gives_id}
 use Rattle.seen.specs.Entries.{until}
 use Rattle.seen.specs.EntriesLaws.{until-later, until-within, insert_room, insert_held_lem}
 use Rattle.mcache.specs.declared.MessageCache.{MessageCache}
-use Rattle.mcache.specs.Messages.{held}
 use Rattle.mcache.specs.State.{dropped, message_size, ring_of}
 use Rattle.mcache.specs.Calls.{index_in, entered_store, stored_under}
 use Rattle.mcache.specs.Readers.{room-keeps-all}

@@ -13,7 +13,7 @@ use Rattle.rows.specs.IdsLaws.{same_self, same_equal}
 use Rattle.admission.specs.Admission.{gives_id, topics_of}
 use Rattle.admission.specs.AdmissionLaws.{one-id}
 use Rattle.seen.specs.Entries.{Entry}
-use Rattle.mcache.specs.Messages.{Cached, topics, held, gossip_ids}
+use Rattle.mcache.specs.Messages.{Cached, topics, gossip_ids}
 use Rattle.mcache.specs.GossipLaws.{in_among}
 use Rattle.node.specs.Gateway.{Gateway, knows, advertisement}
 use Rattle.node.specs.Calls.{told_in, bytes_for, advertise_bytes, max_rpc_size}

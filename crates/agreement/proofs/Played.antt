@@ -1,7 +1,7 @@
 -- What the calls of a round answer and write, with full buffers and in any editions: none is refused; the
 -- advertisement, the request and the reply are those of the definitions; and the reply has fifteen messages, or all
 -- that are asked for.
-use Prim.Native.Nat.{ℕ, zero, suc, ◌-◌, ◌≤◌, ◌<◌, min}
+use Prim.Native.Nat.{ℕ, zero, suc, ◌≤◌, ◌<◌, min}
 use Rattle.std.specs.Prelude.{◌≡◌, refl, true, length, get_or}
 use Rattle.std.proofs.Common.{sym, ◌∙◌}
 use Rattle.std.proofs.Math.Path.{ap, subst}

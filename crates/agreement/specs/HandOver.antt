@@ -1,6 +1,6 @@
 -- A round's request, of node a that is given the advertisement of node b: in every dialect it is taken and names
 -- exactly those of the ids that b tells of and a does not hold, each once; and b has every message that is asked for.
-use Rattle.std.specs.Prelude.{ℕ, suc, ◌+◌, ◌≤◌, ◌≡◌, refl, true, false, not, ◌↔◌, length}
+use Rattle.std.specs.Prelude.{ℕ, suc, ◌≤◌, ◌≡◌, refl, true, false, not, ◌↔◌, length}
 use Rattle.std.proofs.Math.Path.{sym, ap, subst}
 use Rattle.std.proofs.Common.{◌∙◌, arith, length-append}
 use mathlib.Core.List.{List, [], ◌∷◌, ◌++◌, append-nil}

@@ -1,6 +1,6 @@
 -- Laws between the modes. Where the first mode accepts a message, its canonical bytes are the same in both, and so are
 -- those of a body, and what is signed of its messages, whatever the bytes are.
-use Rattle.std.specs.Prelude.{ℕ, ◌+◌, ◌<◌, ◌≡◌, Bool, true, length}
+use Rattle.std.specs.Prelude.{ℕ, ◌<◌, ◌≡◌, Bool, true, length}
 use Rattle.std.proofs.Math.Path.{refl, ap₂}
 use Rattle.std.proofs.Common.{sym, ap, ◌∙◌}
 use Rattle.std.proofs.Math.Bool.{cond}

@@ -42,7 +42,7 @@ use Rattle.meaning.specs.Back.{sub_opts_topic, ihave-topic, graft-topic, prune-t
 use Rattle.meaning.specs.Back.{message-from, message_data, message-seqno, sub_opts_subscribe, prune-backoff, slot_value}
 use Rattle.meaning.specs.Back.{number-value, whole_part, flat, any, joined-flat, rpc-control}
 use Rattle.canon.specs.Canon.{in_order, placed, slot_in, figured, numbered, own_part, each_along, each_of, held_part}
-use Rattle.canon.specs.Canon.{part_with, canon, entries_of, merged_of, body_part, canon_body, sign_of}
+use Rattle.canon.specs.Canon.{canon, entries_of, merged_of, body_part, canon_body, sign_of}
 use Rattle.canon.specs.CanonLaws.{canon-fields}
 use Rattle.canon.specs.Shorter.{signed_fields, signed-shorter, repeated-append}
 

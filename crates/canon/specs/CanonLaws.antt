@@ -1,21 +1,21 @@
 -- Laws of the canonical bytes: a message's are those of its fields, and of its submessages in the same way; and what
 -- its slots hold stands in it.
-use Rattle.std.specs.Prelude.{ℕ, zero, suc, ◌+◌, ◌<◌, ◌≡◌, refl, cond, List, [], ◌++◌, eqb, length}
+use Rattle.std.specs.Prelude.{ℕ, zero, suc, ◌+◌, ◌≡◌, refl, cond, List, [], ◌++◌, eqb, length}
 use Rattle.std.proofs.Common.{ap, ap₂}
 use Rattle.basis.specs.declared.Mode.{Mode}
-use Rattle.basis.specs.Cases.{either, clash}
+use Rattle.basis.specs.Cases.{either}
 use Rattle.protobuf.specs.Walk.{Fields, end, refused, ◌then◌, fields_of, is_bytes, value_in}
 use Rattle.protobuf.specs.Encode.{bytes_field}
 use Rattle.schema.specs.declared.Kind.{Kind}
 use Rattle.schema.specs.declared.Held.{Held}
 use Rattle.schema.specs.declared.Held.TheVariants as held
 use Rattle.schema.specs.declared.Slots.{Slots}
-use Rattle.schema.specs.Schema.{table, row_of, held_of, rank}
+use Rattle.schema.specs.Schema.{table, row_of, held_of}
 use Rattle.schema.specs.SchemaLaws.{held-rank}
 use Rattle.schema.specs.Kinds.{unfolds}
 use Rattle.schema.specs.Slots.{slots_of}
 use Rattle.schema.specs.SlotsLaws.{PlaceInside, SlotsInside}
-use Rattle.canon.specs.Canon.{in_order, all_fields, slot_in, own_part, each_along, each_of, held_part, part_with}
+use Rattle.canon.specs.Canon.{in_order, all_fields, slot_in, own_part, each_along, held_part, part_with}
 use Rattle.canon.specs.Canon.{canon_step, canon}
 
 -- ---- a message's canonical bytes are those of its fields

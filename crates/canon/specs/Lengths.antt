@@ -9,7 +9,7 @@ use Rattle.protobuf.specs.Grammar.{Payload, number, eight, bytes, group, four, E
 use Rattle.protobuf.specs.Grammar.{i32, BodyIn, none as no_fields, field, a_group}
 use Rattle.protobuf.specs.Encode.{tag, varint_field, bytes_field}
 use Rattle.protobuf.specs.EncodeLaws.{varint_field-length, bytes_field-length}
-use Rattle.rpc.specs.Grammar.{put_number, numbers_in, put_bytes, bytes_in, or_else, last, Pairs, no_pairs, ◌paired◌}
+use Rattle.rpc.specs.Grammar.{numbers_in, bytes_in, or_else, last, Pairs, no_pairs, ◌paired◌}
 use Rattle.rpc.specs.Encode.{optional, repeated}
 
 -- ---- varints

@@ -1,6 +1,6 @@
 -- Choosing max_seen: two calls that make one form new within ttl need max_seen others between them, so max_seen + 2 in
 -- all. Where at most max_seen + 1 calls make a form new within any stretch of ttl, none is made new twice within ttl.
-use Rattle.std.specs.Prelude.{ℕ, ◌+◌, ◌-◌, ◌^◌, ◌≤◌, ◌<◌, ◌≡◌, true, cond, List, [], ◌∷◌, ◌++◌, ◌⊎◌, leb}
+use Rattle.std.specs.Prelude.{ℕ, ◌+◌, ◌-◌, ◌^◌, ◌≤◌, ◌<◌, ◌≡◌, true, cond, List, [], ◌∷◌, ◌++◌, leb}
 use Rattle.std.proofs.Common.{⊎_elim, leb-true, leb-false, le-leb, lt-ltb}
 use Rattle.std.proofs.Math.Option.{Option, none, some}
 use native.Mathlib.Omega.{arith}

@@ -4,7 +4,6 @@ use Rattle.std.proofs.Common.{ap, arith, ltb-true, ltb-false}
 use Rattle.basis.specs.Cases.{either}
 use Rattle.basis.specs.Refusals.{bad_setting}
 use Rattle.node.specs.declared.Lent.{Lent}
-use Rattle.node.specs.declared.Lent.TheVariants as lent
 use Rattle.node.specs.Told.{lent_told}
 use Rattle.node.specs.Calls.{lent_of}
 use Rattle.node.specs.Exactly.{admit-faults, beat-faults, advertise-faults, explain-faults, ask-faults, serve-faults}

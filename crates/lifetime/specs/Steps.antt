@@ -13,7 +13,6 @@ use Rattle.seen.specs.Entries.{holds, until, inserted, live}
 use Rattle.seen.specs.EntriesLaws.{insert_held_lem}
 use Rattle.node.specs.declared.Admit.{Admit}
 use Rattle.node.specs.declared.Admit.TheVariants as answer
-use Rattle.node.specs.declared.Beat.TheVariants as beat
 use Rattle.node.specs.Gateway.{Gateway, form_of, is_new, after_admit, after_beat}
 use Rattle.node.specs.State.{gateway_in}
 use Rattle.node.specs.Calls.{Plan, no, taken}

@@ -1,5 +1,5 @@
 -- Laws of the table: what holds of each row holds of the role of every field; and a submessage's kind ranks lower.
-use Rattle.std.specs.Prelude.{ℕ, ◌+◌, ◌<◌, ◌≡◌, refl, List, [], ◌∷◌, eqb}
+use Rattle.std.specs.Prelude.{ℕ, ◌+◌, ◌<◌, ◌≡◌, List, [], ◌∷◌, eqb}
 use Rattle.std.proofs.Common.{sym, subst, arith, eqb-true}
 use Rattle.basis.specs.declared.Edition.{Edition}
 use Rattle.basis.specs.declared.Edition.TheVariants.{V11, V12}

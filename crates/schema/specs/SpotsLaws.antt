@@ -5,7 +5,7 @@ use Rattle.std.proofs.Common.{sym, ap, ap₂, subst, ◌∙◌, arith, length-ta
 use Rattle.basis.specs.declared.Mode.{Mode}
 use Rattle.basis.specs.declared.Spot.{Spot}
 use Rattle.basis.specs.declared.Spot.TheVariants.{Nowhere, At}
-use Rattle.basis.specs.Spot.{at, inside, or_else, Within, Reaches}
+use Rattle.basis.specs.Spot.{inside, or_else, Within, Reaches}
 use Rattle.basis.specs.Cases.{either, clash}
 use Rattle.utf8.specs.Utf8.{is_utf8}
 use Rattle.protobuf.specs.declared.Field.{Field}
@@ -23,7 +23,7 @@ use Rattle.schema.specs.Count.{text_count, role_count, count_along, counted}
 use Rattle.schema.specs.CountLaws.{count_along_lem, plus-fits, then-fits}
 use Rattle.schema.specs.SchemaLaws.{sub-rank}
 use Rattle.schema.specs.Kinds.{unfolds, by_rank}
-use Rattle.schema.specs.Spots.{text_spot, role_spot, spot_along, spot_step, spot_in, field_spot}
+use Rattle.schema.specs.Spots.{text_spot, role_spot, spot_along, spot_step, spot_in}
 
 -- ---- in a message: along its fields, and in its submessages in the same way
 same_role : (f g : Kind → List ℕ → Spot) (s : List ℕ) (x : Field) (r : Role)
