@@ -304,12 +304,7 @@ pub fn pradulins_state(
 
 // Writes a body anew in canonical bytes. Two bits of a dialect count, here and below: bit 0 is the edition, bit 1 the mode, in which groups are passed
 // over.
-pub fn pradulins_encode(
-    dialect: u32,
-    body: &[u8],
-    out: &mut [u8],
-    values: &mut [u64; 8],
-) -> u32
+pub fn pradulins_encode(dialect: u32, body: &[u8], out: &mut [u8], values: &mut [u64; 8]) -> u32
     ensures { Encodes dialect body.now out.old values.old result values.new
         out.new }
 {
@@ -351,12 +346,7 @@ pub fn pradulins_message_id(
 }
 
 // Decodes a body into a table of records, 20 numbers each.
-pub fn pradulins_decode(
-    dialect: u32,
-    body: &[u8],
-    table: &mut [u64],
-    values: &mut [u64; 8],
-) -> u32
+pub fn pradulins_decode(dialect: u32, body: &[u8], table: &mut [u64], values: &mut [u64; 8]) -> u32
     ensures { Decodes dialect body.now table.old values.old result values.new
         table.new }
 {

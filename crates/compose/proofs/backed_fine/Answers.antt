@@ -21,6 +21,6 @@ returns c =
     let f = c.signature_fine-c.ensures in
     let g = c.sender_key_fine-d.ensures in
     elim c.match-signature.branch [
-      in-Absent+else-unsigned w ↦ backed_off a.bytes.now a.base _ a.unsigned a.signature a.key f g c.first.ensures w.in-Absent.is w.if-unsigned.false
-    | in_default w ↦ backed-signed a.bytes.now a.base _ a.unsigned a.signature a.key f g c.first.ensures _ _ w.in_default.is
+      | in-Absent+else-unsigned w ↦ backed_off a.bytes.now a.base _ a.unsigned a.signature a.key f g c.first.ensures w.in-Absent.is w.if-unsigned.false
+      | in_default w ↦ backed-signed a.bytes.now a.base _ a.unsigned a.signature a.key f g c.first.ensures _ _ w.in_default.is
     ]

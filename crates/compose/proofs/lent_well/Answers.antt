@@ -30,12 +30,12 @@ loop-i-preserved c =
     lent_on _ _ l.i l.message l.prune _ l.invariant c.loop-i-test.true c.row_at-r.ensures
     c.held_by.ensures c.if-not-held_by.false c.row_inside.ensures c.if-not-row_inside.false
     (elim c.if-is_code.branch [
-      then-is_code w ↦ or-now l.message m w.if-is_code.true w.message-is
-    | else-is_code w ↦ or-then _ m w.if-is_code.false w.message-is
+      | then-is_code w ↦ or-now l.message m w.if-is_code.true w.message-is
+      | else-is_code w ↦ or-then _ m w.if-is_code.false w.message-is
     ])
     (elim c.if-is_code-2.branch [
-      then-is_code-2 w ↦ or-now l.prune n w.if-is_code-2.true w.prune-is
-    | else-is_code-2 w ↦ or-then _ n w.if-is_code-2.false w.prune-is
+      | then-is_code-2 w ↦ or-now l.prune n w.if-is_code-2.true w.prune-is
+      | else-is_code-2 w ↦ or-then _ n w.if-is_code-2.false w.prune-is
     ])
 
 pub returns : goal.returns

@@ -19,12 +19,12 @@ loop-i-preserved c =
     let a = c.args in
     let l = c.loop-i in
     elim c.if-is_code.branch [
-      then-is_code+else-count-index w ↦ let n = w.if-count-index.false in let v = l.invariant.1 in (
+      | then-is_code+else-count-index w ↦ let n = w.if-count-index.false in let v = l.invariant.1 in (
         omega arith,
         omega arith,
         passed-one a.records.now a.bytes.now l.count l.i a.index l.invariant.2 c.loop-i-test.true c.is_code.ensures w.if-is_code.true w.count-is,
       )
-    | else-is_code w ↦ (
+      | else-is_code w ↦ (
         omega arith,
         omega arith,
         passed_skip a.records.now a.bytes.now l.count l.i a.index l.invariant.2 c.loop-i-test.true c.is_code.ensures w.if-is_code.false w.count-is,

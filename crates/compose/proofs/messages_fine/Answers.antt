@@ -26,9 +26,9 @@ loop-i-preserved c =
     let a = c.args in
     let l = c.loop-i in
     elim c.if-is_code.branch [
-      then-is_code+in_default w ↦
-        unfit_on a.flags a.records.now a.bytes.now l.i l.invariant c.loop-i-test.true c.is_code.ensures w.if-is_code.true w.weigh-fine.ensures w.in_default.is
-    | else-is_code w ↦ unfit_skip a.flags a.records.now a.bytes.now l.i l.invariant c.loop-i-test.true c.is_code.ensures w.if-is_code.false
+      | then-is_code+in_default w ↦
+          unfit_on a.flags a.records.now a.bytes.now l.i l.invariant c.loop-i-test.true c.is_code.ensures w.if-is_code.true w.weigh-fine.ensures w.in_default.is
+      | else-is_code w ↦ unfit_skip a.flags a.records.now a.bytes.now l.i l.invariant c.loop-i-test.true c.is_code.ensures w.if-is_code.false
     ]
 
 pub returns : goal.returns

@@ -37,29 +37,29 @@ loop-i-preserved c =
     let g = l.invariant.1 in
     let rest = topics_from b (rows_from t (l.i + 1)) in
     elim c.if-is_code-2.branch [
-      then-is_code-2+then-long-eq0+then-len-gt-MAX_TOPIC_SIZE w ↦
-        let r = w.row_at-r in (
-          omega arith,
-          counted-more _ _ _ _ g (raw_of b r.result) rest _ _
-              (topics-one t b l.i h e c.if-is_code.false f w.if-is_code-2.true r.result r.ensures) w.count-is
-              (long-now _ rest _ (raw-length t b l.i h r.result c.requires r.ensures) _ _ w.if-long-eq0.true w.if-len-gt-MAX_TOPIC_SIZE.true w.long-is),
-        )
-    | then-is_code-2+then-long-eq0+else-len-gt-MAX_TOPIC_SIZE w ↦
-        let r = w.row_at-r in (
-          omega arith,
-          counted-more _ _ _ _ g (raw_of b r.result) rest _ _
-              (topics-one t b l.i h e c.if-is_code.false f w.if-is_code-2.true r.result r.ensures) w.count-is
-              (long-later _ rest _ (raw-length t b l.i h r.result c.requires r.ensures) _ _ w.if-long-eq0.true w.if-len-gt-MAX_TOPIC_SIZE.false w.long-is),
-        )
-    | then-is_code-2+else-long-eq0 w ↦
-        let r = w.row_at-r in (
-          omega arith,
-          counted-more _ _ _ _ g (raw_of b r.result) rest _ _
-              (topics-one t b l.i h e c.if-is_code.false f w.if-is_code-2.true r.result r.ensures) w.count-is
-              (long-before _ rest _ (raw-length t b l.i h r.result c.requires r.ensures) _ _ w.if-long-eq0.false w.long-is),
-        )
-    | else-is_code-2 w ↦
-        (omega arith, counted_same _ _ _ _ g rest _ _ (topics_skip t b l.i h e c.if-is_code.false f w.if-is_code-2.false) w.count-is w.long-is)
+      | then-is_code-2+then-long-eq0+then-len-gt-MAX_TOPIC_SIZE w ↦
+          let r = w.row_at-r in (
+            omega arith,
+            counted-more _ _ _ _ g (raw_of b r.result) rest _ _
+                (topics-one t b l.i h e c.if-is_code.false f w.if-is_code-2.true r.result r.ensures) w.count-is
+                (long-now _ rest _ (raw-length t b l.i h r.result c.requires r.ensures) _ _ w.if-long-eq0.true w.if-len-gt-MAX_TOPIC_SIZE.true w.long-is),
+          )
+      | then-is_code-2+then-long-eq0+else-len-gt-MAX_TOPIC_SIZE w ↦
+          let r = w.row_at-r in (
+            omega arith,
+            counted-more _ _ _ _ g (raw_of b r.result) rest _ _
+                (topics-one t b l.i h e c.if-is_code.false f w.if-is_code-2.true r.result r.ensures) w.count-is
+                (long-later _ rest _ (raw-length t b l.i h r.result c.requires r.ensures) _ _ w.if-long-eq0.true w.if-len-gt-MAX_TOPIC_SIZE.false w.long-is),
+          )
+      | then-is_code-2+else-long-eq0 w ↦
+          let r = w.row_at-r in (
+            omega arith,
+            counted-more _ _ _ _ g (raw_of b r.result) rest _ _
+                (topics-one t b l.i h e c.if-is_code.false f w.if-is_code-2.true r.result r.ensures) w.count-is
+                (long-before _ rest _ (raw-length t b l.i h r.result c.requires r.ensures) _ _ w.if-long-eq0.false w.long-is),
+          )
+      | else-is_code-2 w ↦
+          (omega arith, counted_same _ _ _ _ g rest _ _ (topics_skip t b l.i h e c.if-is_code.false f w.if-is_code-2.false) w.count-is w.long-is)
     ]
 
 pub returns : goal.returns

@@ -179,9 +179,9 @@ emit_message-loop-n-preserved t c =
     let o = c.emit_own-i.ensures in
     let p : Puts l.out l.end (part l.n) c.match-held.out c.match-held.end =
     elim c.match-held.branch [
-      emit_message-in-Nothing w ↦ puts_left _ _ _ _ _ _ _ w.out-is w.end-is
+      | emit_message-in-Nothing w ↦ puts_left _ _ _ _ _ _ _ w.out-is w.end-is
           (row_puts Groups _ a.kind a.part.now l.n _ q r _ h o (puts_nothing l.n a.part.now _ _ _ w.in-Nothing.is))
-    | emit_message-in_default w ↦ puts_left _ _ _ _ _ _ _ w.out-is w.end-is
+      | emit_message-in_default w ↦ puts_left _ _ _ _ _ _ _ w.out-is w.end-is
           (row_puts Groups _ a.kind a.part.now l.n _ q r _ h o w.emit_held-end.ensures)
     ] in
     record {

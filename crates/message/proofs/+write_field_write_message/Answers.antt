@@ -15,14 +15,14 @@ pub write_field-write_leaf-requires : goal.write_field-write_leaf-requires
 write_field-write_leaf-requires t c =
     let a = c.args in
     let e : length (field_rows Groups a.kind a.base a.input.now a.f) ≡ 1 =
-        field_count_lem Groups a.kind a.base a.input.now a.f _ (sym c.role_of-role.ensures ∙ c.in-Topic.is) in
+    field_count_lem Groups a.kind a.base a.input.now a.f _ (sym c.role_of-role.ensures ∙ c.in-Topic.is) in
     omega arith
 
 pub write_field-write_leaf-requires-in-MessageId : goal.write_field-write_leaf-requires-in-MessageId
 write_field-write_leaf-requires-in-MessageId t c =
     let a = c.args in
     let e : length (field_rows Groups a.kind a.base a.input.now a.f) ≡ 1 =
-        field_count_lem Groups a.kind a.base a.input.now a.f _ (sym c.role_of-role.ensures ∙ c.in-MessageId.is) in
+    field_count_lem Groups a.kind a.base a.input.now a.f _ (sym c.role_of-role.ensures ∙ c.in-MessageId.is) in
     omega arith
 
 pub write_field-write_message-requires : goal.write_field-write_message-requires
@@ -108,7 +108,7 @@ write_message-returns-in-End t c =
     let z = along-end Groups a.kind a.base a.input.now l.at (sym c.in-End.is ∙ c.read_field-step.ensures) in
     let w = c.write_own-next_row.ensures in
     let p = puts_rows Groups a.kind a.base a.input.now a.table.now _ _ a.row _ _ (w.value, w.table_after)
-        (left-none _ _ _ _ _ _ l.invariant.left z) in
+    (left-none _ _ _ _ _ _ l.invariant.left z) in
     record { value = p.0; table_after = p.1 }
 
 pub write_message-returns-in-Refused : goal.write_message-returns-in-Refused
@@ -118,7 +118,7 @@ write_message-returns-in-Refused t c =
     let z = along-refused Groups a.kind a.base a.input.now l.at _ (sym c.in-Refused.is ∙ c.read_field-step.ensures) in
     let w = c.write_own-next_row.ensures in
     let p = puts_rows Groups a.kind a.base a.input.now a.table.now _ _ a.row _ _ (w.value, w.table_after)
-        (left-none _ _ _ _ _ _ l.invariant.left z) in
+    (left-none _ _ _ _ _ _ l.invariant.left z) in
     record { value = p.0; table_after = p.1 }
 
 pub write_message-returns : goal.write_message-returns
@@ -128,7 +128,7 @@ write_message-returns t c =
     let z = along-done Groups a.kind a.base a.input.now l.at c.loop-at-test.false in
     let w = c.write_own-next_row.ensures in
     let p = puts_rows Groups a.kind a.base a.input.now a.table.now _ _ a.row _ _ (w.value, w.table_after)
-        (left-none _ _ _ _ _ _ l.invariant.left z) in
+    (left-none _ _ _ _ _ _ l.invariant.left z) in
     record { value = p.0; table_after = p.1 }
 
 pub write_message-write_field-next_row-requires : goal.write_message-write_field-next_row-requires

@@ -27,7 +27,6 @@ field_at-returns-then-f-path-clause-result_after t c =
     let e = field-there a.body.now a.start a.end a.path.now a.f q.field_within (q.start_le_end.0, q.start_le_end.1) a.mode c.if-f-eq-WIRE_LEN.true c.if-f-path.true in
     c.parts_at.ensures.result_after ∙ ap (λ (l : List (List ℕ)). parts_in a.body.now a.table.now a.n ++ l) (sym e)
 
-
 pub parts_at-add_part-requires : goal.parts_at-add_part-requires
 parts_at-add_part-requires t c =
     let a = c.args in
