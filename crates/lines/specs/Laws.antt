@@ -1,5 +1,5 @@
 -- What the pieces of a line make together.
-use Rattle.std.specs.Prelude.{ℕ, ◌+◌, ◌≤◌, ◌<◌, ◌≡◌, refl, List, [], Bool, true, false, cond, length, take, replicate, leb}
+use Rattle.std.specs.Prelude.{ℕ, ◌+◌, ◌≤◌, ◌<◌, ◌≡◌, List, [], Bool, true, false, cond, length, take, replicate, leb}
 use Rattle.std.proofs.Common.{sym, ◌∙◌, arith, length-take-le, leb-true}
 use Rattle.std.proofs.lemmas.List.{length-replicate}
 use Rattle.std.proofs.lemmas.Bool.{lt-leb}

@@ -2,7 +2,7 @@
 -- they were given.
 use Rattle.std.specs.Prelude.{ℕ, ◌+◌, ◌*◌, ◌≤◌, ◌≡◌, List, ◌++◌, length, take, drop, eqb}
 use Rattle.std.proofs.Common.{sym, ap, ◌∙◌, arith, zero-add, length-take, length-drop, take_at, eqb-true}
-use Rattle.std.proofs.lemmas.List.Edits.{sets, sets-eq}
+use Rattle.std.proofs.lemmas.List.Edits.{sets-eq}
 use Rattle.basis.specs.Cases.{either, clash}
 use Rattle.basis.specs.Writing.{set_in}
 use Rattle.basis.specs.Lists.{set-fits}

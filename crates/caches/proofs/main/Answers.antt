@@ -1,4 +1,4 @@
-use Prim.Native.Nat.{◌-◌}
+-- `caches` is safe and ends: the buffers keep their lengths.
 use Rattle.lines.specs.Laws.{filled}
 use Rattle.caches.proofs.main.Goals as goal
 

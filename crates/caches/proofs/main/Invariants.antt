@@ -1,3 +1,4 @@
+-- `caches` is safe and ends: the buffers keep their lengths.
 use Prim.Native.Nat.{◌-◌, ◌^◌}
 use mathlib.Core.Path.{◌≡◌}
 use lib.ListN.{length}

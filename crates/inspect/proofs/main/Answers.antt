@@ -1,5 +1,4 @@
 -- `inspect::main` is safe and ends: the measure is how many records it still counts.
-use Prim.Native.Nat.{◌-◌}
 use Rattle.lines.specs.Laws.{filled}
 use Rattle.inspect.proofs.main.Goals as goal
 

@@ -1,5 +1,4 @@
 -- `states` is safe and ends: the buffers keep their lengths.
-use Rattle.std.proofs.Common.{◌-◌}
 use Rattle.lines.specs.Laws.{filled}
 use Rattle.states.proofs.main.Goals as goal
 

@@ -1,5 +1,4 @@
 -- `why` is safe and ends: the buffers keep their lengths.
-use Prim.Native.Nat.{◌-◌}
 use Rattle.lines.specs.Laws.{filled}
 use Rattle.why.proofs.main.Goals as goal
 

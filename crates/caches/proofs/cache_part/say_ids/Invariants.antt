@@ -1,3 +1,4 @@
+-- `caches::cache_part::say_ids` is safe and ends: the measure is how many ids are left.
 use Prim.Native.Nat.{◌-◌, ◌≤◌}
 use mathlib.Core.Path.{◌≡◌}
 use lib.ListN.{length}

@@ -1,3 +1,4 @@
+-- `caches::say::print` is safe: with the newline the part that is printed is there.
 use Rattle.lines.specs.Laws.{prefix}
 use Rattle.caches.proofs.Buffers.{after-set}
 use Rattle.caches.proofs.say.print.Goals as goal

@@ -1,8 +1,7 @@
 -- `inspect::lists::put_words` meets its contract: three words, two, and those of the fields, one after the other.
 use native.Mathlib.Omega.{arith}
-use mathlib.Core.Path.{refl, ap, ◌∙◌}
-use lib.ListN.{length, length-set}
-use lib.Seq.{length-sets}
+use mathlib.Core.Path.{refl}
+use lib.ListN.{length-set}
 use borrow.Author.Rules.{rules}
 use Rattle.inspect.proofs.Rows.{words-put}
 use Rattle.inspect.proofs.lists.put_words.Goals as goal
