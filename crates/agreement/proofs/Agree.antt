@@ -12,7 +12,6 @@ use Rattle.admission.specs.AdmissionLaws.{one-id}
 use Rattle.mcache.specs.Messages.{Cached, topics}
 use Rattle.mcache.specs.GossipLaws.{among_in}
 use Rattle.node.specs.Gateway.{Gateway, knows}
-use Rattle.node.specs.Calls.{max_rpc_size}
 use Rattle.history.specs.History.{State, gateway_of, Settings, Call, after_all, readings}
 use Rattle.history.proofs.Laws.{after-append}
 use Rattle.agreement.specs.Premises.{MessageSet, Alike, Clock, Premises}
@@ -20,8 +19,12 @@ use Rattle.agreement.specs.Round.{missing, lacked, Play, Fair, turned, teller_ro
 use Rattle.agreement.specs.Rows.{rows_under, rows-known}
 use Rattle.agreement.specs.Holding.{Holding}
 use Rattle.agreement.proofs.Holding.{set-alike, holding-all}
-use Rattle.agreement.proofs.Identical.{Kept, rows-kept, rows-entry, none-missing, Identical, identical-bytes}
-use Rattle.agreement.proofs.CatchUp.{teller-stays, CaughtUp, all_asked, all_told, caught_up, all-arrived}
+use Rattle.agreement.specs.Identical.{Kept}
+use Rattle.agreement.proofs.Identical.{rows-kept, rows-entry, none-missing, identical-bytes}
+use Rattle.agreement.specs.CatchUp.{CaughtUp, all_asked}
+use Rattle.agreement.proofs.CatchUp.{teller-stays, caught_up, all-arrived}
+use Rattle.agreement.specs.Agree.{calls_a1 as calls_a1_of, calls_b1 as calls_b1_of, calls_a2 as calls_a2_of}
+use Rattle.agreement.specs.Agree.{calls_b2 as calls_b2_of, Agree}
 
 -- ---- what a gateway does not lack it does not lack after the other got more, where it had that itself
 all_known : (mode : Mode) (topic : List ℕ) (g : Gateway) (cs : List Cached)
@@ -82,28 +85,17 @@ module _ {set : List (List ℕ)} {x y : Settings} {calls_a_lem calls_b_lem : Lis
     (s : ℕ) (at2 : ℕ → ℕ → ℕ) where
   -- after the rounds in which a asks
   abbrev calls_a1 : List Call
-  calls_a1 = all_asked set x y calls_a_lem calls_b_lem a b p r at
+  calls_a1 = calls_a1_of ms pa pb alike p q fp fq same r at clock_a s at2
 
   abbrev calls_b1 : List Call
-  calls_b1 = all_told set x y calls_a_lem calls_b_lem a b p r at
+  calls_b1 = calls_b1_of ms pa pb alike p q fp fq same r at clock_a s at2
 
   -- and after those in which b asks
-  abbrev pub calls_a2 : List Call
-  calls_a2 = all_told set y x calls_b1 calls_a1 b a q s at2
+  abbrev calls_a2 : List Call
+  calls_a2 = calls_a2_of ms pa pb alike p q fp fq same r at clock_a s at2
 
-  abbrev pub calls_b2 : List Call
-  calls_b2 = all_asked set y x calls_b1 calls_a1 b a q s at2
-
-  pub record Agree : Type 0 where
-    -- the histories with all rounds are under the premises
-    pub history_a : Premises set x calls_a2 a
-    pub history_b : Premises set y calls_b2 b
-    -- neither lacks anything
-    pub a_has-all : lacked p.topic (after_all calls_a2 a) (after_all calls_b2 b) ≡ []
-    pub b_has-all : lacked p.topic (after_all calls_b2 b) (after_all calls_a2 a) ≡ []
-    -- both advertise in identical bytes, whatever buffers they are lent
-    pub identical : (out-a out-b : List ℕ) → max_rpc_size ≤ length out-a → max_rpc_size ≤ length out-b
-        → Identical p.topic p.windows q.windows out-a out-b (after_all calls_a2 a) (after_all calls_b2 b)
+  abbrev calls_b2 : List Call
+  calls_b2 = calls_b2_of ms pa pb alike p q fp fq same r at clock_a s at2
 
   module _ (clock_b : Clock y (readings calls_b2)) (n : ℕ)
       (few : length (lacked p.topic (after_all calls_a_lem a) (after_all calls_b_lem b)) ≤ n) (enough : (n + 14) / 15 ≤ r)
@@ -137,7 +129,7 @@ module _ {set : List (List ℕ)} {x y : Settings} {calls_a_lem calls_b_lem : Lis
         ∙ all-arrived msb first.teller_history first.asker_history (sym alike) q (turned fq) s at2 clock_b m
         (subst (λ (t : List ℕ). length (lacked t (after_all calls_b1 b) (after_all calls_a1 a)) ≤ m) same few2) enough2
 
-    pub gateways_agree : Agree
+    pub gateways_agree : Agree ms pa pb alike p q fp fq same r at clock_a s at2
     gateways_agree =
         record {
           history_a = second.teller_history;

@@ -33,8 +33,10 @@ use Rattle.agreement.proofs.Holding.{admit-done, holding-admit}
 use Rattle.agreement.proofs.Once.{with-again, with-this, with_other}
 use Rattle.agreement.specs.HandOver.{lacking-exactly}
 use Rattle.agreement.specs.Delivered.{Delivers, brought_delivered}
-use Rattle.agreement.proofs.Lacking.{Got, told-got, wants-once, wants-count}
-use Rattle.agreement.proofs.Played.{advert-done, request-done, reply-done, replied, served-is, wants, replies}
+use Rattle.agreement.specs.Lacking.{Got}
+use Rattle.agreement.proofs.Lacking.{told-got, wants-once, wants-count}
+use Rattle.agreement.specs.Played.{wants, replies}
+use Rattle.agreement.proofs.Played.{advert-done, request-done, reply-done, replied, served-is}
 use Rattle.agreement.proofs.Played.{replies-count, reply-at, reply-got, enough, reply-delivers}
 use Rattle.agreement.specs.Arrive.{Admitted, RoundDone}
 

@@ -1,7 +1,7 @@
 -- An example with groups: two gateways that pass over groups, two messages, of which the second has a group and is lost
 -- on its way to the first gateway, and histories that meet every premise. One round brings the second message, with its
 -- group.
-use Rattle.std.specs.Prelude.{ℕ, ◌≡◌, refl, true, List, [], ◌∷◌, ◌++◌}
+use Rattle.std.specs.Prelude.{◌≡◌, refl, true, [], ◌∷◌}
 use Rattle.std.proofs.Common.{sym}
 use Rattle.basis.specs.declared.Edition.{Edition}
 use Rattle.basis.specs.declared.Edition.TheVariants.{V12}
@@ -29,29 +29,21 @@ use Rattle.rows.specs.Store.{all_up_to}
 use Rattle.seen.specs.Entries.{holds, until, inserted, live}
 use Rattle.mcache.specs.Messages.{held, put, get, carrying, enter_id, in_order, gossip_ids}
 use Rattle.node.specs.Gateway.{Gateway, started, is_new, after_admit, told_of, knows, lacking, having}
-use Rattle.history.specs.History.{Call, after_all}
+use Rattle.history.specs.History.{after_all}
 use Rattle.history.proofs.Laws.{carried-brought}
 use Rattle.history.specs.Script.{Carries}
 use Rattle.history.specs.Samples.{signature, start}
 use Rattle.agreement.specs.Premises.{MessageSet, Alike, Premises}
 use Rattle.agreement.specs.Round.{missing, lacked, Fair}
-use Rattle.agreement.proofs.CatchUp.{all_asked, all_told, CaughtUp}
-use Rattle.agreement.proofs.Example.{topic, second-sender, first, first-id, second-id, first_body}
-use Rattle.agreement.proofs.Example.{upto-bytes, ids-differ, play}
-use Rattle.agreement.proofs.Pair.{Pair, settings_a, settings_b, calls_a, calls_b, at_a, at_b, gateway_a, gateway_b}
-use Rattle.agreement.proofs.Pair.{reading, message-set, premises_a, premises_b, fair, a_lacks, round_done, none-lacking}
+use Rattle.agreement.specs.CatchUp.{CaughtUp}
+use Rattle.agreement.specs.Example.{topic, first, first-id, second-id, first_body, play}
+use Rattle.agreement.proofs.Example.{upto-bytes, ids-differ}
+use Rattle.agreement.specs.Pair.{Pair, settings_a, settings_b, at_a, at_b, gateway_a, gateway_b, reading}
+use Rattle.agreement.proofs.Pair.{message-set, premises_a, premises_b, fair, a_lacks, round_done, none-lacking}
+use Rattle.agreement.specs.ExampleGroups.{grouped, grouped-body, messages, calls_a_lem, calls_b_lem, all_a, all_b}
 
 -- ---- the messages: the example's first, and one with seqno 2, topic `t` and, before its signature, a group of number
 -- 15 with one field in it
-unfoldable pub grouped : List ℕ
-grouped =
-    0x0a ∷ 0x26 ∷ (second-sender ++ (0x1a ∷ 0x01 ∷ 0x02 ∷ 0x22 ∷ 0x01 ∷ 0x74 ∷ 0x7b ∷ 0x08 ∷ 0x01 ∷ 0x7c ∷ 0x2a ∷ 0x40 ∷
-    signature))
-
--- the body in which it comes
-unfoldable pub grouped-body : List ℕ
-grouped-body = 0x12 ∷ 0x74 ∷ grouped
-
 pub first-carried : (ed : Edition) → Carries 2 ed first_body first first-id
 unfolding signature first first_body accept_of body_records counted over_kinds to_depth text_count role_of rank own_of is_utf8
     run walk_at walk_from read_field read_value skip_field skip_fixed read_varint read_len read_tag read_uvarint read_from group_of
@@ -93,16 +85,7 @@ two =
       differ = ids-differ;
     }
 
-abbrev pub messages : List (List ℕ)
-messages = first ∷ grouped ∷ []
-
 -- ---- the gateways pass over groups: a gets the first message, b both
-abbrev pub calls_a_lem : List Call
-calls_a_lem = calls_a true first_body
-
-abbrev pub calls_b_lem : List Call
-calls_b_lem = calls_b first_body grouped-body
-
 -- their histories meet the premises
 pub histories : MessageSet 2 messages × Premises messages (settings_a 2) calls_a_lem (start (settings_a 2))
     × Premises messages (settings_b 2) calls_b_lem (start (settings_b 2)) × Fair play (settings_a 2) (settings_b 2)
@@ -148,14 +131,6 @@ pub round_brings : CaughtUp messages (settings_a 2) (settings_b 2) calls_a_lem c
 round_brings = round_done two a_wants b_has a_misses
 
 -- after it a lacks nothing
-abbrev all_a : List Call
-all_a = all_asked messages (settings_a 2) (settings_b 2) calls_a_lem calls_b_lem (start (settings_a 2)) (start (settings_b 2)) play 1
-    reading
-
-abbrev all_b : List Call
-all_b = all_told messages (settings_a 2) (settings_b 2) calls_a_lem calls_b_lem (start (settings_a 2)) (start (settings_b 2)) play 1
-    reading
-
 pub a_lacks-nothing-then : lacked topic (after_all all_a (start (settings_a 2))) (after_all all_b (start (settings_b 2)))
     ≡ []
 a_lacks-nothing-then = none-lacking two a_wants b_has a_misses

@@ -26,7 +26,7 @@ use Rattle.node.specs.State.{rises_from}
 use Rattle.node.specs.Calls.{told_in, bytes_for, advertise_bytes}
 use Rattle.node.specs.Laws.{told-gateway}
 use Rattle.history.specs.History.{State, gateway_of, Call, admit, ask, after, after_all, readings, first_of}
-use Rattle.history.proofs.Laws.{started_by}
+use Rattle.history.specs.Laws.{started_by}
 use Rattle.history.specs.Script.{Act, gets, asks, calls_of, gateway_after, Written, nothing, got, asked}
 use Rattle.history.proofs.ScriptLaws.{fresh-leaves}
 use Rattle.history.specs.Samples.{signature, start}
@@ -39,21 +39,19 @@ use Rattle.agreement.specs.HandOver.{request-is}
 use Rattle.agreement.proofs.Lacking.{fine}
 use Rattle.agreement.proofs.Played.{advertise-is, requested, one-replied, one_round as one-asked}
 use Rattle.agreement.proofs.Request.{request-is_exact}
-use Rattle.agreement.proofs.CatchUp.{all_asked, all_told, CaughtUp, caught_up, all-arrived}
-use Rattle.agreement.proofs.Identical.{Identical, identical-bytes}
-use Rattle.agreement.proofs.Example.{topic, first, second, messages, first-id, second-id, first_body}
-use Rattle.agreement.proofs.Example.{second-body, first-carried, second-carried, message-set, settings_a_lem}
-use Rattle.agreement.proofs.Example.{settings_b_lem, fresh_a, fresh_b, calls_a_lem, calls_b_lem, script_a, script_b}
-use Rattle.agreement.proofs.Example.{calls_a-written, calls_b-written, written_a, written_b, clock-by, premises_a}
-use Rattle.agreement.proofs.Example.{premises_b, buffer, buffer_full, play, fair, alike}
+use Rattle.agreement.specs.CatchUp.{CaughtUp}
+use Rattle.agreement.proofs.CatchUp.{caught_up, all-arrived}
+use Rattle.agreement.specs.Identical.{Identical}
+use Rattle.agreement.proofs.Identical.{identical-bytes}
+use Rattle.agreement.specs.Example.{topic, first, second, messages, first-id, second-id, first_body, second-body}
+use Rattle.agreement.specs.Example.{settings_a_lem, settings_b_lem, calls_a_lem, calls_b_lem, script_a, script_b}
+use Rattle.agreement.specs.Example.{buffer, play}
+use Rattle.agreement.proofs.Example.{first-carried, second-carried, message-set, fresh_a, fresh_b, calls_a-written}
+use Rattle.agreement.proofs.Example.{calls_b-written, written_a, written_b, clock-by, premises_a, premises_b}
+use Rattle.agreement.proofs.Example.{buffer_full, fair, alike}
+use Rattle.agreement.specs.ExampleRound.{at_a_lem, at_b, reading, all_a, all_b, later_a, later_b}
 
 -- ---- the gateways after these calls
-abbrev pub at_a_lem : State
-at_a_lem = after_all calls_a_lem (start settings_a_lem)
-
-abbrev pub at_b : State
-at_b = after_all calls_b_lem (start settings_b_lem)
-
 unfoldable gateway_a_lem : Gateway
 gateway_a_lem =
     record {
@@ -188,9 +186,6 @@ pub reply_bytes_lem : reply_of play at_a_lem at_b ≡ second-body
 reply_bytes_lem = one-replied holding_a holding_b play fair second second-id wanted-is has_it ∙ body-written
 
 -- ---- one round, a's admits at 20
-abbrev pub reading : ℕ → ℕ → ℕ
-reading k i = 20
-
 -- a's calls in it: it asks, and admits the message served
 pub one_round : asker_rounds play 1 reading at_a_lem at_b
     ≡ ask V12 (advert_of play at_b) (buffer 1 7) ∷ admit V12 second-body 0 true 20 ∷ []
@@ -199,13 +194,6 @@ one_round =
     append-nil (asker_round play (reading 0) at_a_lem at_b)
     ∙ one-asked holding_a holding_b play fair second second-id wanted-is has_it (reading 0)
     ∙ ap (λ (body : List ℕ). ask V12 (advert_of play at_b) (buffer 1 7) ∷ admit V12 body 0 true 20 ∷ []) body-written
-
--- all calls of each, with the round
-abbrev pub all_a : List Call
-all_a = all_asked messages settings_a_lem settings_b_lem calls_a_lem calls_b_lem (start settings_a_lem) (start settings_b_lem) play 1 reading
-
-abbrev pub all_b : List Call
-all_b = all_told messages settings_a_lem settings_b_lem calls_a_lem calls_b_lem (start settings_a_lem) (start settings_b_lem) play 1 reading
 
 abbrev advert : List ℕ
 advert = advert_of play at_b
@@ -238,12 +226,6 @@ pub round_done : CaughtUp messages settings_a_lem settings_b_lem calls_a_lem cal
 round_done = caught_up message-set premises_a premises_b alike play fair 1 reading clock-all
 
 -- ---- after it neither lacks anything
-abbrev pub later_a : State
-later_a = after_all all_a (start settings_a_lem)
-
-abbrev pub later_b : State
-later_b = after_all all_b (start settings_b_lem)
-
 one-lacking : length (lacked topic at_a_lem at_b) ≡ 1
 one-lacking = ap length a_lacks_the_second
 

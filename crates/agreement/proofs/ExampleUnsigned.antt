@@ -27,15 +27,17 @@ use Rattle.rows.specs.Store.{all_up_to}
 use Rattle.seen.specs.Entries.{holds, until, inserted, live}
 use Rattle.mcache.specs.Messages.{held, put, get, carrying, enter_id, in_order, gossip_ids}
 use Rattle.node.specs.Gateway.{Gateway, started, is_new, after_admit, told_of, knows, lacking, having}
-use Rattle.history.specs.History.{Call, admit, after_all, brought, times_got, times_new}
+use Rattle.history.specs.History.{admit, after_all, brought, times_got, times_new}
 use Rattle.history.specs.Samples.{unsigned, id_of, unsigned_body, unsigned-carried, start}
 use Rattle.agreement.specs.Premises.{MessageSet, Alike, Premises}
 use Rattle.agreement.specs.Round.{missing, lacked, Fair}
 use Rattle.agreement.proofs.Once.{new-exactly-once}
-use Rattle.agreement.proofs.CatchUp.{all_asked, all_told, CaughtUp}
-use Rattle.agreement.proofs.Example.{topic, upto-bytes, play}
-use Rattle.agreement.proofs.Pair.{Pair, settings_a, settings_b, calls_a, calls_b, at_a, at_b, gateway_a, gateway_b}
-use Rattle.agreement.proofs.Pair.{reading, message-set, premises_a, premises_b, fair, a_lacks, round_done, none-lacking}
+use Rattle.agreement.specs.CatchUp.{CaughtUp}
+use Rattle.agreement.specs.Example.{topic, play}
+use Rattle.agreement.proofs.Example.{upto-bytes}
+use Rattle.agreement.specs.Pair.{Pair, settings_a, settings_b, calls_a, at_a, at_b, gateway_a, gateway_b, reading}
+use Rattle.agreement.proofs.Pair.{message-set, premises_a, premises_b, fair, a_lacks, round_done, none-lacking}
+use Rattle.agreement.specs.ExampleUnsigned.{messages, calls_a_lem, calls_b_lem, all_a, all_b}
 
 -- ---- the messages: the samples without a signature, with seqno 1 and 2
 first-bytes : Bytes (unsigned 1)
@@ -72,16 +74,7 @@ two =
       differ = differ;
     }
 
-abbrev pub messages : List (List ℕ)
-messages = unsigned 1 ∷ unsigned 2 ∷ []
-
 -- ---- the gateways allow them: a gets the first message, without the host's word; b gets both, with it
-abbrev pub calls_a_lem : List Call
-calls_a_lem = calls_a false (unsigned_body 1)
-
-abbrev pub calls_b_lem : List Call
-calls_b_lem = calls_b (unsigned_body 1) (unsigned_body 2)
-
 -- their histories meet the premises
 pub histories : MessageSet 1 messages × Premises messages (settings_a 1) calls_a_lem (start (settings_a 1))
     × Premises messages (settings_b 1) calls_b_lem (start (settings_b 1)) × Fair play (settings_a 1) (settings_b 1)
@@ -134,14 +127,6 @@ pub round_brings : CaughtUp messages (settings_a 1) (settings_b 1) calls_a_lem c
 round_brings = round_done two a_wants b_has a_misses
 
 -- after it a lacks nothing
-abbrev all_a : List Call
-all_a = all_asked messages (settings_a 1) (settings_b 1) calls_a_lem calls_b_lem (start (settings_a 1)) (start (settings_b 1)) play 1
-    reading
-
-abbrev all_b : List Call
-all_b = all_told messages (settings_a 1) (settings_b 1) calls_a_lem calls_b_lem (start (settings_a 1)) (start (settings_b 1)) play 1
-    reading
-
 pub a_lacks-nothing-then : lacked topic (after_all all_a (start (settings_a 1))) (after_all all_b (start (settings_b 1)))
     ≡ []
 a_lacks-nothing-then = none-lacking two a_wants b_has a_misses

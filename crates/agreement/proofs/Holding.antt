@@ -32,7 +32,8 @@ use Rattle.node.specs.WellFormedLaws.{rises_less, first-least}
 use Rattle.history.specs.History.{State, gateway_of, Settings, Fresh, Call, admit, heartbeat, advertise, ask, serve}
 use Rattle.history.specs.History.{plan_in, after, after_all, reading, readings, first_of, beat, beats, refusal_at}
 use Rattle.history.specs.History.{explain, brought, answer_in}
-use Rattle.history.proofs.Laws.{node-clock, started_by, after-keeps, fresh_keeps, fresh-starts, fresh-clock}
+use Rattle.history.specs.Laws.{started_by}
+use Rattle.history.proofs.Laws.{node-clock, after-keeps, fresh_keeps, fresh-starts, fresh-clock}
 use Rattle.history.proofs.Laws.{admit-none, taken-number, admit-leaves, admit-clock, beat-leaves, beat-clock}
 use Rattle.history.proofs.Laws.{brings_that, brought_plan, unbrought_plan}
 use Rattle.agreement.specs.Premises.{MessageSet, MemberAt, Members, member, Clock, Premises}

@@ -10,7 +10,7 @@ use Rattle.basis.specs.Dialect.{mode_of}
 use Rattle.basis.specs.Cases.{either, clash}
 use Rattle.rows.specs.Ids.{same_bytes, among}
 use Rattle.rows.specs.IdsLaws.{same_self, same_equal}
-use Rattle.admission.specs.Admission.{gives_id, topics_of}
+use Rattle.admission.specs.Admission.{topics_of}
 use Rattle.admission.specs.AdmissionLaws.{one-id}
 use Rattle.seen.specs.Entries.{Entry}
 use Rattle.mcache.specs.Messages.{Cached, topics, gossip_ids}
@@ -18,21 +18,18 @@ use Rattle.mcache.specs.GossipLaws.{in_among}
 use Rattle.node.specs.Gateway.{Gateway, knows, advertisement}
 use Rattle.node.specs.Calls.{told_in, bytes_for, advertise_bytes, max_rpc_size}
 use Rattle.node.specs.Laws.{told-gateway}
-use Rattle.history.specs.History.{State, gateway_of, Settings, Call, advertise, after_all, refusal_at}
+use Rattle.history.specs.History.{State, gateway_of, Settings, Call, after_all}
 use Rattle.agreement.specs.Premises.{MessageSet, Alike, Premises}
-use Rattle.agreement.specs.Round.{missing, lacked, advert_by}
+use Rattle.agreement.specs.Round.{missing, lacked}
 use Rattle.agreement.specs.Rows.{Rows, none, row, rows_under, rows-known}
 use Rattle.agreement.specs.Holding.{Holding}
 use Rattle.agreement.proofs.Holding.{set-alike, holding-all}
 use Rattle.agreement.specs.Sorted.{Carried, told-carried}
 use Rattle.agreement.proofs.Lacking.{fine, all-recent}
 use Rattle.agreement.proofs.Played.{advertise-done, advertise-is}
+use Rattle.agreement.specs.Identical.{Kept, Entered, Identical}
 
 -- ---- the rows, by message and by entry
-pub record Kept (flags : ℕ) (c : Cached) (got : List (List ℕ)) : Type 0 where
-  pub was_got : among c.message got ≡ true
-  pub own : gives_id flags c.message c.id ≡ true
-
 pub rows-kept : {flags least most : ℕ} {ms : List (List ℕ)} {es : List Entry} {cs : List Cached} (c : Cached)
     → Rows flags least most ms es cs → Memᴰ c cs → Kept flags c ms
 unfolding among
@@ -43,12 +40,6 @@ rows-kept c (row {m} {c = k} {ms} x rs) d =
     (λ r. let q = rows-kept c rs r in
     record { was_got = rw q.was_got (or-true (same_bytes m c.message)); own = q.own })
     (Memᴰ.cases_cons d)
-
-pub record Entered (flags : ℕ) (m : List ℕ) (cs : List Cached) : Type 0 where
-  pub entry : Cached
-  pub there : Memᴰ entry cs
-  pub message : entry.message ≡ m
-  pub own : gives_id flags m entry.id ≡ true
 
 pub rows-entry : {flags least most : ℕ} {ms : List (List ℕ)} {es : List Entry} {cs : List Cached} (m : List ℕ)
     → Rows flags least most ms es cs → among m ms ≡ true → Entered flags m cs
@@ -129,13 +120,6 @@ module _ {flags : ℕ} {set : List (List ℕ)} (ms : MessageSet flags set) where
     same_bytes_lem = ap (λ (l : List (List ℕ)). bytes_for l (advertisement topic l)) same-told
 
 -- ---- for two histories under the premises; each gateway advertises with its own windows and its own buffer
-pub record Identical (topic : List ℕ) (windows-a windows-b : ℕ) (out-a out-b : List ℕ) (a b : State) : Type 0 where
-  -- neither advertise is refused
-  pub taken_a : refusal_at a (advertise topic windows-a out-a) ≡ 0
-  pub taken_b : refusal_at b (advertise topic windows-b out-b) ≡ 0
-  -- and the bytes that they say they wrote are the same
-  pub same : advert_by topic windows-a out-a a ≡ advert_by topic windows-b out-b b
-
 pub identical-bytes : {set : List (List ℕ)} {x y : Settings} {calls_a_lem calls_b_lem : List Call} {a b : State}
     → MessageSet x.flags set → Premises set x calls_a_lem a → Premises set y calls_b_lem b → Alike x y
     → (topic : List ℕ) → length topic ≤ 1024

@@ -12,7 +12,6 @@ use Rattle.basis.specs.Dialect.{mode_of}
 use Rattle.basis.specs.Cases.{either, clash}
 use Rattle.rows.specs.Ids.{same_bytes, among, distinct}
 use Rattle.rows.specs.IdsLaws.{same_self, same_equal, all-few}
-use Rattle.admission.specs.Admission.{gives_id}
 use Rattle.seen.specs.Entries.{Entry}
 use Rattle.mcache.specs.Messages.{Cached, topics, ids_of, held, get, carrying, gossip_ids}
 use Rattle.mcache.specs.StateLaws.{fine-tests}
@@ -29,6 +28,7 @@ use Rattle.agreement.specs.Round.{missing, lacked}
 use Rattle.agreement.specs.Rows.{Rows, none, row}
 use Rattle.agreement.specs.Holding.{Holding}
 use Rattle.agreement.specs.HandOver.{lacking-distinct}
+use Rattle.agreement.specs.Lacking.{Got}
 
 -- ---- what the rows say of a cached message
 pub rows-young : {flags least most : ℕ} {ms : List (List ℕ)} {es : List Entry} {cs : List Cached} (c : Cached)
@@ -36,11 +36,6 @@ pub rows-young : {flags least most : ℕ} {ms : List (List ℕ)} {es : List Entr
 rows-young c none d = absurd (Memᴰ.not-nil d)
 rows-young c (row {c = k} x rs) d =
     ⊎_elim (λ (e : c ≡ k). rw e x.young) (λ r. rows-young c rs r) (Memᴰ.cases_cons d)
-
--- the message of a cached id: it was got, and it gives that id
-pub record Got (flags : ℕ) (i m : List ℕ) (got : List (List ℕ)) : Type 0 where
-  pub among-got : among m got ≡ true
-  pub own : gives_id flags m i ≡ true
 
 got-more : {flags : ℕ} {i m : List ℕ} (k : List ℕ) (got : List (List ℕ)) → Got flags i m got → Got flags i m (k ∷ got)
 unfolding among

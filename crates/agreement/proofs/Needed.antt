@@ -7,7 +7,7 @@ use Rattle.std.specs.Prelude.{◌≡◌, Bool, false, length, get_or, replicate}
 use Rattle.std.proofs.Math.Path.{refl, ap, ap₂}
 use Rattle.std.proofs.Common.{◌∙◌, arith, lt-ltb, le-ltb}
 use Rattle.std.proofs.Math.Bool.{true}
-use mathlib.Core.List.{List, [], ◌∷◌, ◌++◌}
+use mathlib.Core.List.{List, [], ◌∷◌}
 use Rattle.std.proofs.lemmas.List.{length-replicate, get_or-replicate}
 use Rattle.std.proofs.lemmas.Bool.{lt-leb}
 use Rattle.basis.specs.declared.Mode.{Mode}
@@ -60,51 +60,44 @@ use Rattle.node.specs.declared.Admit.TheVariants as answered
 use Rattle.node.specs.declared.Beat.TheVariants as beat
 use Rattle.node.specs.declared.Advertise.TheVariants as told
 use Rattle.node.specs.declared.Ask.TheVariants as asked
-use Rattle.node.specs.declared.Serve.{Serve}
 use Rattle.node.specs.declared.Serve.TheVariants as served
 use Rattle.node.specs.Gateway.{Gateway, started, marked, is_new, after_admit, after_beat, told_of, knows, lacking, having}
 use Rattle.node.specs.State.{gateway_in, rises_from}
 use Rattle.node.specs.Calls.{on_lent, lent_of, planned, no, admit_answer, beat_answer, advertise_bytes, advertise_answer}
 use Rattle.node.specs.Calls.{ask_bytes, ask_answer}
 use Rattle.node.specs.Calls.{wanted, unwanted_in, remaining, rows_for, cached_of, room_of, served_of, reply_to, serve_number}
-use Rattle.node.specs.Calls.{serve_answer, serve_left}
-use Rattle.history.specs.History.{State, gateway_of, Settings, Fresh, Call, admit, heartbeat, advertise, ask, serve}
+use Rattle.node.specs.Calls.{serve_answer}
+use Rattle.history.specs.History.{State, gateway_of, Settings, Call, admit, heartbeat, advertise, ask, serve}
 use Rattle.history.specs.History.{explain, plan_in, after, after_all, refusal_at, brought, brings, is_new as newAnswer, times}
-use Rattle.history.specs.History.{times_new, served_bytes, served_messages, admits}
-use Rattle.history.proofs.Laws.{after-append, started_by, history_keeps, fresh-starts, refused-stays, after-flags}
-use Rattle.history.proofs.Laws.{history_flags, brings-exactly, fresh_keeps, fresh-flags}
-use Rattle.history.specs.Samples.{signature, first-sender, message, unsigned, id_of, unsigned_body, message-carried, start}
-use Rattle.agreement.specs.Round.{missing, lacked, Play, onward, Fair, fair-onward, advert_of, request_of, reply_of}
-use Rattle.agreement.specs.Round.{served_count, asker_round, teller_round, asker_rounds, teller_rounds}
+use Rattle.history.specs.History.{times_new, admits}
+use Rattle.history.specs.Laws.{started_by}
+use Rattle.history.proofs.Laws.{after-append, history_keeps, fresh-starts, refused-stays, after-flags, history_flags}
+use Rattle.history.proofs.Laws.{brings-exactly, fresh_keeps, fresh-flags}
+use Rattle.history.specs.Samples.{signature, message, unsigned, id_of, unsigned_body, message-carried}
+use Rattle.agreement.specs.Round.{missing, lacked, Play, onward, Fair, fair-onward, reply_of}
+use Rattle.agreement.specs.Round.{served_count, asker_round, teller_round, asker_rounds}
 use Rattle.agreement.specs.Holding.{Holding}
 use Rattle.agreement.proofs.Holding.{holding-fresh}
 use Rattle.agreement.proofs.Played.{one-replied, one_round}
 use Rattle.agreement.proofs.CatchUp.{teller-stays}
 use Rattle.agreement.specs.Fifteen.{longest-field, some_fit, longest-fit}
-use Rattle.agreement.proofs.Example.{second-id, settings_a_lem, fresh_a, fresh_b}
-use Rattle.agreement.proofs.Example.{calls_b_lem, play, fair_for}
+use Rattle.agreement.specs.Example.{second-id, settings_a_lem, calls_b_lem, play}
+use Rattle.agreement.proofs.Example.{fresh_a, fresh_b, fair_for}
 use Rattle.agreement.proofs.ExampleRound.{a_lacks_the_second, request-bytes}
-use Rattle.agreement.proofs.ExampleRound.{at_a_lem as lacking-a, at_b as holding-it}
-use Rattle.agreement.proofs.Pair.{at_a, gateway_a, a_is, holding_a}
+use Rattle.agreement.specs.ExampleRound.{at_a_lem as lacking-a, at_b as holding-it}
+use Rattle.agreement.specs.Pair.{gateway_a}
+use Rattle.agreement.proofs.Pair.{a_is, holding_a}
 use Rattle.agreement.proofs.ExampleUnsigned.{two as unsigned-two}
-use Rattle.agreement.proofs.ExampleGroups.{grouped, grouped-body, turned as grouped-alone}
+use Rattle.agreement.specs.ExampleGroups.{grouped, grouped-body}
+use Rattle.agreement.proofs.ExampleGroups.{turned as grouped-alone}
+use Rattle.agreement.specs.Needed.{topic, with, NewTwice, other_message, NeverNew, Unanswered, stranger, stranger_body}
+use Rattle.agreement.specs.Needed.{NeverArrives, asker, teller, group-teller, Apart, Untold, reply_with, asker_with}
+use Rattle.agreement.specs.Needed.{teller_with, Withheld, unwanted_body}
 
 -- ---- the small messages of the samples
-abbrev pub topic : List ℕ
-topic = 116 ∷ []
-
 -- they pass admission, under these ids
 pub admissible : (n : ℕ) → gives_id 0 (message n) (id_of n) ≡ true
 admissible n = (message-carried n V11).own
-
--- a gateway, and one of these messages admitted at a reading
-abbrev pub with : ℕ → ℕ → Gateway → Gateway
-with at n g = after_admit at (message n) (id_of n) g
-
--- message 1 is new at a gateway, and new again at a later one
-pub record NewTwice (at later : ℕ) (g h : Gateway) : Type 0 where
-  pub first : is_new at (message 1) (id_of 1) g ≡ true
-  pub again : is_new later (message 1) (id_of 1) h ≡ true
 
 -- ---- the set is no larger than max_seen
 -- two messages and room for one id: the second drives the first out, which is then new again
@@ -159,18 +152,8 @@ unfolding signature message is_signed slots_of with_field set_place role_of walk
 needs-fresh = refl
 
 -- ---- different messages of the set have different ids
--- the same from and seqno, and data beside them: another message with the same id
-abbrev pub other_message : List ℕ
-other_message = 10 ∷ 38 ∷ (first-sender ++ (18 ∷ 1 ∷ 7 ∷ 26 ∷ 1 ∷ 1 ∷ 34 ∷ 1 ∷ 116 ∷ 42 ∷ 64 ∷ signature))
-
--- it is not new, and the first is what is served in its place
-pub record NeverNew (m k id : List ℕ) (g : Gateway) : Type 0 where
-  pub differ : same_bytes m k ≡ false
-  pub one-id : gives_id g.flags m id ≡ true
-  pub same_id : gives_id g.flags k id ≡ true
-  pub not_new : is_new 2 k id (after_admit 1 m id g) ≡ false
-  pub not-kept : having (after_admit 2 k id (after_admit 1 m id g)) (id ∷ []) ≡ m ∷ []
-
+-- the same from and seqno, and data beside them: another message with the same id; it is not new, and the first is what is
+-- served in its place
 pub needs_ids-differ : NeverNew (message 1) other_message (id_of 1) (started 100 4 2 4 0)
 unfolding signature message is_signed slots_of with_field set_place role_of walk_at walk_from read_field read_value skip_field skip_fixed
     read_varint read_len read_tag read_uvarint read_from group_of started is_new after_admit holds among live inserted newest
@@ -226,14 +209,6 @@ module _ (flags : ℕ) (m : List ℕ) (why : Unfit) (u : admission_of flags m tr
   never-new (explain id name windows ∷ cs) s same =
       let c = explain id name windows in rw (never-new cs (after c s) (after-flags c s ∙ same))
 
--- at a gateway with these flags it comes in, in either edition, is called new in no history, and is refused by this
--- number each time
-pub record Unanswered (flags number : ℕ) (m body : List ℕ) : Type 0 where
-  pub comes_in : (ed : Edition) (at : ℕ) → brings flags m (admit ed body 0 true at) ≡ true
-  pub never-new : (calls : List Call) (s : State) → (gateway_of s).flags ≡ flags → times_new flags m calls s ≡ 0
-  pub refused : {x : Settings} {s : State} → Fresh x s → x.flags ≡ flags → (before : List Call) (ed : Edition) (at : ℕ)
-      → refusal_at (after_all before s) (admit ed body 0 true at) ≡ number
-
 unanswered : (flags : ℕ) (m body : List ℕ) (why : Unfit) → admission_of flags m true ≡ admission.Unfit why
     → ((ed : Edition) (at : ℕ) → brings flags m (admit ed body 0 true at) ≡ true)
     → Unanswered flags (unfit_told why).number m body
@@ -259,12 +234,6 @@ needs_admissible flags off =
     unanswered flags (unsigned 1) (unsigned_body 1) MissingSignature (unsigned-unfit flags off) (unsigned-brought flags)
 
 -- the same of a host's name, `gate`, as the sender of a message that is else as the others are, by 34, under all flags
-abbrev pub stranger : List ℕ
-stranger = 10 ∷ 4 ∷ 103 ∷ 97 ∷ 116 ∷ 101 ∷ 26 ∷ 1 ∷ 1 ∷ 34 ∷ 1 ∷ 116 ∷ 42 ∷ 64 ∷ signature
-
-abbrev pub stranger_body : List ℕ
-stranger_body = 18 ∷ 78 ∷ stranger
-
 stranger-unfit : (flags : ℕ) → admission_of flags stranger true ≡ admission.Unfit NotPeerId
 unfolding signature admission_of id_parts slots_of with_field set_place walk_at walk_from read_field read_value skip_field
     skip_fixed read_varint read_len read_tag read_uvarint read_from group_of role_of is_peer_id from_bytes hash_of
@@ -281,21 +250,6 @@ needs_peer_id flags =
     unanswered flags stranger stranger_body NotPeerId (stranger-unfit flags) (stranger-brought flags)
 
 -- ---- both nodes set alike
--- A gateway lacks a message that another holds, asks for it and is served it; the admit is refused by this number and
--- leaves it as it was. So it lacks the message after any number of rounds.
-pub record NeverArrives (p : Play) (number : ℕ) (m id : List ℕ) (a b : State) : Type 0 where
-  pub asks : lacking (gateway_of a) (told_of p.topic p.windows (gateway_of b)) ≡ id ∷ []
-  pub served : reply_of p a b ≡ bytes_field 2 m
-  pub refused : (ed : Edition) (at : ℕ) → refusal_at a (admit ed (reply_of p a b) 0 true at) ≡ number
-  pub stays : (r : ℕ) (at : ℕ → ℕ → ℕ) → after_all (asker_rounds p r at a b) a ≡ a
-  pub lacks : (r : ℕ) (at : ℕ → ℕ → ℕ)
-      → lacked p.topic (after_all (asker_rounds p r at a b) a) (after_all (teller_rounds p r at a b) b)
-      ≡ record { id = id; message = m; window = 0 } ∷ []
-
--- the asker is as the first gateway of the example, fresh, with flags 0
-abbrev asker : State
-asker = start settings_a_lem
-
 asker-is : gateway_of asker ≡ started_by settings_a_lem
 asker-is = fresh-starts fresh_a
 
@@ -370,9 +324,6 @@ module _ {set : List (List ℕ)} {y : Settings} {first past left : ℕ} {rs : Li
 
 -- ---- unsigned messages are allowed by both or by neither
 -- the teller allows unsigned messages and holds one, and the asker does not allow them: 25
-abbrev teller : State
-teller = at_a 1 false (unsigned_body 1)
-
 abbrev teller-gateway : Gateway
 teller-gateway = gateway_a 1 (unsigned 1) (id_of 1)
 
@@ -425,9 +376,6 @@ needs_alike = (
 
 -- ---- both are in one mode
 -- the teller passes over groups and holds a message with one, and the asker reads in the first mode: 5
-abbrev group-teller : State
-group-teller = at_a 2 true grouped-body
-
 abbrev group-gateway : Gateway
 group-gateway = gateway_a 2 grouped second-id
 
@@ -489,13 +437,6 @@ needs_one_mode = (
       group-has group_misses 5 (omega arith) group-refuses,
 )
 
--- ---- two gateways that lack nothing of each other, and tell of different ids
-pub record Apart (windows : ℕ) (a b : Gateway) (tells-a tells-b : List (List ℕ)) : Type 0 where
-  pub a_lacks : missing (mode_of b.flags) topic a b.cache ≡ []
-  pub b_lacks : missing (mode_of a.flags) topic b a.cache ≡ []
-  pub a_tells : told_of topic windows a ≡ tells-a
-  pub b_tells : told_of topic windows b ≡ tells-b
-
 -- ---- the set is no larger than max_messages
 -- two messages and room for one: both gateways have seen both, and each holds the one that it got last
 pub needs_set-cached : Apart 2 (with 2 2 (with 1 1 (started 100 4 2 1 0))) (with 2 1 (with 1 2 (started 100 4 2 1 0)))
@@ -513,11 +454,6 @@ unfolding signature message is_signed slots_of with_field set_place role_of walk
     read_varint read_len read_tag read_uvarint read_from group_of started is_new after_admit after_beat holds among same_bytes
     live inserted newest until held put shift missing knows allows_unsigned gossip_ids in_order enter_id carrying topics_of
 needs_few_heartbeats = record { a_lacks = refl; b_lacks = refl; a_tells = refl; b_tells = refl }
-
--- ---- something is lacking, and what is told of does not have it
-pub record Untold (told : List (List ℕ)) (a b : Gateway) : Type 0 where
-  pub lacks : length (missing (mode_of b.flags) topic a b.cache) ≡ 1
-  pub asks : lacking a told ≡ []
 
 -- ---- windows at least both history_lens
 -- after one heartbeat the message is in the second window, and one window is told of: it is lacking, and not asked for
@@ -541,34 +477,8 @@ needs_undisturbed = record { lacks = refl; asks = refl }
 -- ---- no second body is lent in a round
 -- a round as those of Round, but for the second body that its serve is lent
 module _ (p : Play) (second : List ℕ) (a b : State) where
-  abbrev pub reply_with : Serve
-  reply_with =
-      serve_answer b.node b.ids b.messages (p.serve_edition 0) (request_of p a b) second (p.reply_out 0)
 
-  abbrev pub bytes_with : List ℕ
-  bytes_with =
-      served_bytes reply_with
-      (serve_left b.node b.ids b.messages (p.serve_edition 0) (request_of p a b) second (p.reply_out 0))
-
-  abbrev pub asker_with : (ℕ → ℕ) → List Call
-  asker_with at =
-      ask (p.ask_edition 0) (advert_of p b) (p.request_out 0)
-      ∷ admits (p.admit_edition 0) bytes_with at 0 (served_messages reply_with)
-
-  abbrev pub teller_with : List Call
-  teller_with =
-      advertise p.topic p.windows (p.advert_out 0)
-      ∷ serve (p.serve_edition 0) (request_of p a b) second (p.reply_out 0) ∷ []
-
-  -- a message is lacking and asked for; the serve is not refused, and neither writes nor leaves one, so nothing is
-  -- admitted; and after the round it is lacking as before
-  pub record Withheld : Type 0 where
-    pub lacks : length (lacked p.topic a b) ≡ 1
-    pub answers : reply_with ≡ served.Reply 0 0 0
-    pub still : (at : ℕ → ℕ)
-        → lacked p.topic (after_all (asker_with at) a) (after_all teller_with b) ≡ lacked p.topic a b
-
-  withheld : length (lacked p.topic a b) ≡ 1 → reply_with ≡ served.Reply 0 0 0 → Withheld
+  withheld : length (lacked p.topic a b) ≡ 1 → reply_with p second a b ≡ served.Reply 0 0 0 → Withheld p second a b
   unfolding admits after_all after
   withheld one none = record { lacks = one; answers = none; still = λ at. rw none }
 
@@ -577,10 +487,6 @@ pub with_none : (p : Play) (a b : State) (at : ℕ → ℕ)
     → (asker_with p [] a b at ≡ asker_round p at a b) × (teller_with p [] a b ≡ teller_round p a b)
 unfolding asker_round teller_round reply_of served_count
 with_none p a b at = (refl, refl)
-
--- the example's gateways: the teller is lent an IDONTWANT of the id of the message that it holds and the asker lacks
-abbrev pub unwanted_body : List ℕ
-unwanted_body = 26 ∷ 43 ∷ 42 ∷ 41 ∷ 10 ∷ 39 ∷ second-id
 
 abbrev wanted_body : List ℕ
 wanted_body = 26 ∷ 43 ∷ 18 ∷ 41 ∷ 10 ∷ 39 ∷ second-id

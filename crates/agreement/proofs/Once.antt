@@ -12,16 +12,16 @@ use Rattle.basis.specs.declared.Edition.{Edition}
 use Rattle.basis.specs.Cases.{either, clash}
 use Rattle.rows.specs.Ids.{same_bytes, among}
 use Rattle.rows.specs.IdsLaws.{same_self, same_equal, among-append}
-use Rattle.node.specs.declared.Admit.TheVariants as answer
 use Rattle.history.specs.History.{State, Settings, Call, admit, heartbeat, advertise, ask, serve, after_all, reading}
-use Rattle.history.specs.History.{readings, first_of, beat, beats, refusal_at, brought, is_that, brings, times_got}
-use Rattle.history.specs.History.{after, explain, answer_in, is_new, is_duplicate, count_at, times, times_new, times_duplicate}
+use Rattle.history.specs.History.{readings, first_of, beat, beats, brought, is_that, brings, times_got}
+use Rattle.history.specs.History.{after, explain, is_new, is_duplicate, count_at, times, times_new, times_duplicate}
 use Rattle.history.proofs.Laws.{readings-append, beats-append, brings_that}
 use Rattle.agreement.specs.Premises.{MessageSet, MemberAt, Members, none_left, member, Premises}
 use Rattle.agreement.specs.Holding.{with_got, got_by, got_next, got_all, Holding}
 use Rattle.agreement.proofs.Holding.{admit-answers, admit-done}
 use Rattle.agreement.specs.Holding.{past_all, past_next}
 use Rattle.agreement.proofs.Holding.{holding-start, holding-next, members-here, members-rest, holding_on}
+use Rattle.agreement.specs.Once.{One, not-this, first_time, once_more, Some, Delivered}
 
 -- ---- a message among those got, and one more got
 pub with-again : (m p : List ℕ) (got : List (List ℕ)) → among m got ≡ true → among m (with_got p got) ≡ true
@@ -72,18 +72,7 @@ pub got-exactly : (flags : ℕ) (m : List ℕ) (calls : List Call)
 unfolding among
 got-exactly flags m calls = got-from flags m calls []
 
--- ---- one call: how often the message is got, new and duplicate, and whether it was got before it and is after it
-data One (got new duplicate : ℕ) (was now : Bool) : Type 0 where
-  not-this : got ≡ 0 → new ≡ 0 → duplicate ≡ 0 → now ≡ was → One got new duplicate was now
-  first_time : got ≡ 1 → new ≡ 1 → duplicate ≡ 0 → was ≡ false → now ≡ true → One got new duplicate was now
-  once_more : got ≡ 1 → new ≡ 0 → duplicate ≡ 1 → was ≡ true → now ≡ true → One got new duplicate was now
-
 -- ---- some calls
-record Some (got new duplicate : ℕ) (was : Bool) : Type 0 where
-  answered : got ≡ new + duplicate
-  never : was ≡ true → new ≡ 0
-  once : was ≡ false → 1 ≤ got → new ≡ 1
-
 one_more_lem : {a b c d e f : ℕ} {was now : Bool} → One a b c was now → Some d e f now → Some (a + d) (b + e) (c + f) was
 one_more_lem {a} {b} {c} {d} {e} {f} (not-this p q r t) s =
     let z = s.answered in
@@ -160,15 +149,6 @@ module _ {set : List (List ℕ)} {x : Settings} {calls : List Call} {s : State} 
       (n, new-or-duplicate ∙ ap (λ (k : ℕ). k + times_duplicate x.flags m calls s) n)
 
 -- ---- an admit of a history that brings a message: how it is answered, after the calls before it
-pub record Delivered (flags : ℕ) (m : List ℕ) (before : List Call) (ed : Edition) (body : List ℕ) (i : ℕ) (word : Bool)
-    (at : ℕ) (s : State) : Type 0 where
-  -- new where no call before it brought the message
-  pub first_time : times_got flags m before ≡ 0 → answer_in (after_all before s) ed body i word at ≡ answer.New
-  -- duplicate where one did
-  pub other_times : 1 ≤ times_got flags m before → answer_in (after_all before s) ed body i word at ≡ answer.Duplicate
-  -- and never refused
-  pub not-refused : refusal_at (after_all before s) (admit ed body i word at) ≡ 0
-
 members-split : {flags : ℕ} {set : List (List ℕ)} (cs ds : List Call) → Members flags set (cs ++ ds)
     → Members flags set cs × Members flags set ds
 members-split [] ds h = (none_left, h)

@@ -4,24 +4,20 @@ use Rattle.std.specs.Prelude.{ℕ, ◌<◌, ◌≡◌, Bool, true, length}
 use Rattle.std.proofs.Math.Path.{refl, ap}
 use Rattle.std.proofs.Common.{sym, ap₂, subst, ◌∙◌}
 use mathlib.Core.List.{List, [], ◌∷◌, ◌++◌, append-nil}
-use Rattle.std.proofs.Math.Option.{some}
 use native.Mathlib.Omega.{arith}
-use Rattle.basis.specs.declared.Edition.{Edition}
 use Rattle.basis.specs.declared.Edition.TheVariants.{V11, V12}
 use Rattle.basis.specs.Dialect.{mode_of}
-use Rattle.basis.specs.Bytes.{Bytes}
 use Rattle.protobuf.specs.Encode.{bytes_field}
-use Rattle.admission.specs.Flags.{known_flags}
 use Rattle.rows.specs.Store.{all_up_to}
 use Rattle.mcache.specs.State.{legal}
 use Rattle.node.specs.Gateway.{Gateway, after_admit, told_of, lacking, having}
 use Rattle.node.specs.State.{legal_settings, rises_from}
 use Rattle.node.specs.Calls.{taken}
-use Rattle.history.specs.History.{State, gateway_of, Settings, Fresh, Call, admit, ask, plan_in, after_all, readings}
-use Rattle.history.specs.History.{first_of, beats as beatsIn, brought}
-use Rattle.history.proofs.Laws.{node-clock, started_by, fresh_keeps, fresh-starts, fresh-clock, fresh-flags, admit-leaves}
+use Rattle.history.specs.History.{gateway_of, Fresh, Call, admit, ask, plan_in, after_all, readings}
+use Rattle.history.specs.History.{first_of, beats as beatsIn}
+use Rattle.history.proofs.Laws.{node-clock, fresh_keeps, fresh-starts, fresh-clock, fresh-flags, admit-leaves}
 use Rattle.history.proofs.Laws.{brought_plan}
-use Rattle.history.specs.Script.{Carries, Act, gets, calls_of, gateway_after, Written, nothing, got}
+use Rattle.history.specs.Script.{Act, gets, calls_of, gateway_after, Written, nothing, got}
 use Rattle.history.proofs.ScriptLaws.{fresh-leaves}
 use Rattle.history.specs.Samples.{start, start-fresh}
 use Rattle.agreement.specs.Premises.{MessageSet, Members, none_left, member, Clock, Premises}
@@ -29,50 +25,14 @@ use Rattle.agreement.specs.Round.{missing, lacked, Fair, advert_of, asker_round,
 use Rattle.agreement.specs.Holding.{got_all, past_all, Holding}
 use Rattle.agreement.proofs.Holding.{member-some, holding-all}
 use Rattle.agreement.proofs.Played.{one_round as one-asked}
-use Rattle.agreement.proofs.CatchUp.{all_asked, all_told, CaughtUp, caught_up, all-arrived}
-use Rattle.agreement.proofs.Script.{in_set, script_members}
-use Rattle.agreement.proofs.Example.{topic, two-set, two_in, clock-by, buffer, play, fair_for}
-
--- ---- the messages m and k, their ids i and j, and a body that brings each, under some flags; the first comes also
--- with this word of the host
-pub record Pair (flags : ℕ) (word : Bool) (m i body k j other : List ℕ) : Type 0 where
-  pub known : known_flags flags ≡ true
-  pub first : (ed : Edition) → Carries flags ed body m i
-  pub second : (ed : Edition) → Carries flags ed other k j
-  pub comes : brought flags (admit V12 body 0 word 10) ≡ some m
-  pub bytes-first : Bytes m
-  pub bytes-second : Bytes k
-  pub differ : i ≡ j → ⊥
-
--- ---- the gateways
-abbrev pub settings_a : ℕ → Settings
-settings_a flags = record { ttl = 100; max_seen = 2; history_len = 2; max_messages = 2; flags = flags }
-
-abbrev pub settings_b : ℕ → Settings
-settings_b flags = record { ttl = 50; max_seen = 3; history_len = 3; max_messages = 4; flags = flags }
-
--- their calls: a gets the first message, b both
-unfoldable pub calls_a : Bool → List ℕ → List Call
-calls_a word body = admit V12 body 0 word 10 ∷ []
-
-unfoldable pub calls_b : List ℕ → List ℕ → List Call
-calls_b body other = admit V11 other 0 true 7 ∷ admit V11 body 0 true 8 ∷ []
-
--- after these
-abbrev pub at_a : ℕ → Bool → List ℕ → State
-at_a flags word body = after_all (calls_a word body) (start (settings_a flags))
-
-abbrev pub at_b : ℕ → List ℕ → List ℕ → State
-at_b flags body other = after_all (calls_b body other) (start (settings_b flags))
-
-unfoldable pub gateway_a : ℕ → List ℕ → List ℕ → Gateway
-gateway_a flags m i = after_admit 10 m i (started_by (settings_a flags))
-
-unfoldable pub gateway_b : ℕ → List ℕ → List ℕ → List ℕ → List ℕ → Gateway
-gateway_b flags m i k j = after_admit 8 m i (after_admit 7 k j (started_by (settings_b flags)))
-
-abbrev pub reading : ℕ → ℕ → ℕ
-reading k i = 20
+use Rattle.agreement.specs.CatchUp.{all_asked, all_told, CaughtUp}
+use Rattle.agreement.proofs.CatchUp.{caught_up, all-arrived}
+use Rattle.agreement.specs.Script.{in_set}
+use Rattle.agreement.proofs.Script.{script_members}
+use Rattle.agreement.specs.Example.{topic, buffer, play}
+use Rattle.agreement.proofs.Example.{two-set, two_in, clock-by, fair_for}
+use Rattle.agreement.specs.Pair.{Pair, settings_a, settings_b, calls_a, calls_b, at_a, at_b, gateway_a, gateway_b}
+use Rattle.agreement.specs.Pair.{reading}
 
 module _ {flags : ℕ} {word : Bool} {m i body k j other : List ℕ} (t : Pair flags word m i body k j other) where
   pub message-set : MessageSet flags (m ∷ k ∷ [])

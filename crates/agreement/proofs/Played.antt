@@ -27,17 +27,15 @@ use Rattle.mcache.specs.GossipLaws.{told-held}
 use Rattle.node.specs.declared.Lent.TheVariants as lent
 use Rattle.node.specs.declared.Advertise.TheVariants as told
 use Rattle.node.specs.declared.Ask.TheVariants as asked
-use Rattle.node.specs.declared.Serve.{Serve}
 use Rattle.node.specs.Gateway.{Gateway, told_of, lacking, having, max_rpc_size}
 use Rattle.node.specs.State.{gateway_in}
 use Rattle.node.specs.Calls.{lent_of, advertise_answer, advertise_left, advertise_bytes, ask_answer, ask_left, ask_bytes}
 use Rattle.node.specs.Calls.{serve_answer, serve_left, cached_of, remaining, room_of, served_of, reply_bytes, reply_to}
-use Rattle.node.specs.Calls.{serve_number}
 use Rattle.node.specs.ReplyLaws.{reply-some}
 use Rattle.outputs.specs.Adverts.{advert-rpc, advert-taken}
 use Rattle.outputs.specs.Exactly.{at_front}
-use Rattle.history.specs.History.{State, gateway_of, Settings, admit, advertise, ask, serve, refusal_at, served_bytes}
-use Rattle.history.specs.History.{served_messages, admits}
+use Rattle.history.specs.History.{State, gateway_of, Settings, admit, advertise, ask, serve, refusal_at}
+use Rattle.history.specs.History.{admits}
 use Rattle.agreement.specs.Round.{Play, Fair, advert_by, advert_of, request_of, reply_answer, reply_of, served_count}
 use Rattle.agreement.specs.Round.{asker_round}
 use Rattle.agreement.specs.Holding.{Holding}
@@ -45,7 +43,9 @@ use Rattle.agreement.specs.HandOver.{request-rpc, request-taken, reply-has, repl
 use Rattle.agreement.specs.HandOver.{lacks-exactly}
 use Rattle.agreement.specs.Fifteen.{fifteen_fit}
 use Rattle.agreement.specs.Delivered.{Delivers, reply-taken}
-use Rattle.agreement.proofs.Lacking.{Got, fine, told-got}
+use Rattle.agreement.specs.Lacking.{Got}
+use Rattle.agreement.proofs.Lacking.{fine, told-got}
+use Rattle.agreement.specs.Played.{Answers, wants as wants_of, replies as replies_of}
 
 -- ---- a reply
 room_full : (out : List ℕ) → 65536 ≤ length out → room_of out ≡ 65536
@@ -60,12 +60,6 @@ pub served-enough : (ms : List (List ℕ)) (out : List ℕ) → 65536 ≤ length
     → ((i : ℕ) → i < length ms → length (get_or ms i []) ≤ 4096) → min 15 (length ms) ≤ served_of ms out
 unfolding served_of
 served-enough ms out h each = rw (room_full out h) (fifteen_fit ms each)
-
--- what is answered
-pub record Answers (ms : List (List ℕ)) (out : List ℕ) (r : Serve) : Type 0 where
-  pub done : serve_number r ≡ 0
-  pub bytes : served_bytes r (sets out 0 (reply_bytes ms out)) ≡ reply_bytes ms out
-  pub count : served_messages r ≡ served_of ms out
 
 reply-answers : (ms : List (List ℕ)) (out : List ℕ) → min 15 (length ms) ≤ served_of ms out
     → Answers ms out (reply_to ms out)
@@ -168,25 +162,25 @@ module _ {set : List (List ℕ)} {x y : Settings} {firstA pastA leftA firstB pas
   requested = rw (advert-is, request-answer, request-left) (at_front asking (p.request_out 0) asking-small)
 
   -- ---- the reply
-  unfoldable pub wants : List (List ℕ)
-  wants = lacking (gateway_of a) (told_of p.topic p.windows (gateway_of b))
+  abbrev wants : List (List ℕ)
+  wants = wants_of ha hb p fair
 
-  unfoldable pub replies : List (List ℕ)
-  replies = having (gateway_of b) wants
+  abbrev replies : List (List ℕ)
+  replies = replies_of ha hb p fair
 
   wants-told : (i : List ℕ) → among i wants ≡ true → among i (told_of p.topic p.windows (gateway_of b)) ≡ true
-  unfolding wants
+  unfolding wants_of
   wants-told i t = ((lacks-exactly b.node b.ids b.messages p.topic p.windows fine_b hb.bytes
       fair.topic-short a.node a.ids a.messages i).0 t).0
 
   pub replies-count : length replies ≡ length wants
-  unfolding replies wants
+  unfolding replies_of wants_of
   replies-count = reply-all b.node b.ids b.messages p.topic p.windows fine_b hb.bytes
       fair.topic-short a.node a.ids a.messages
 
   -- the j-th message asked for is that of the j-th id, which b got and which gives that id
   pub reply-at : (j : ℕ) → j < length wants → get_or replies j [] ≡ get (get_or wants j []) (gateway_of b).cache
-  unfolding replies
+  unfolding replies_of
   reply-at j l =
       having-at (gateway_of b) wants (λ i t. told-held (mode_of (gateway_of b).flags) p.topic p.windows
       (gateway_of b).cache i (wants-told i t)) j
@@ -215,7 +209,7 @@ module _ {set : List (List ℕ)} {x y : Settings} {firstA pastA leftA firstB pas
 
   reply-cached : cached_of b.node.cache b.messages (remaining (mode_of b.node.cache.flags) asking [])
       ≡ replies
-  unfolding replies wants
+  unfolding replies_of wants_of
   reply-cached = reply-has b.node b.ids b.messages p.topic p.windows fine_b hb.bytes
       fair.topic-short a.node a.ids a.messages
 
@@ -252,7 +246,7 @@ module _ {set : List (List ℕ)} {x y : Settings} {firstA pastA leftA firstB pas
 
   -- read in the teller's mode
   pub reply-delivers : Delivers (mode_of y.flags) replies (p.reply_out 0)
-  unfolding replies wants gateway_in
+  unfolding replies_of wants_of gateway_in
   reply-delivers =
       subst (λ (f : ℕ). Delivers (mode_of f) replies (p.reply_out 0)) hb.held.flags
       (reply-taken b.node b.ids b.messages p.topic p.windows fine_b hb.bytes
@@ -263,7 +257,7 @@ module _ {set : List (List ℕ)} {x y : Settings} {firstA pastA leftA firstB pas
       (asks : lacking (gateway_of a) (told_of p.topic p.windows (gateway_of b)) ≡ id ∷ [])
       (has : having (gateway_of b) (id ∷ []) ≡ m ∷ []) where
     one-reply : replies ≡ m ∷ []
-    unfolding replies wants
+    unfolding replies_of wants_of
     one-reply = ap (having (gateway_of b)) asks ∙ has
 
     one-enough : served_of (m ∷ []) (p.reply_out 0) ≡ 1

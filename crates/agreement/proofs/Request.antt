@@ -1,34 +1,18 @@
 -- The request is exact: given the other's advertisement, in either edition, a gateway writes a request exactly where it
 -- lacks something that the other holds, and the request names exactly that, each id once, in every dialect.
-use Rattle.std.specs.Prelude.{ℕ, ◌≡◌, refl, true, List, [], ◌∷◌, ◌↔◌, length}
+use Rattle.std.specs.Prelude.{ℕ, ◌≡◌, refl, List, [], ◌∷◌, length}
 use Rattle.std.proofs.Common.{sym, ap, subst, ◌∙◌, arith}
-use Rattle.basis.specs.declared.Dialect.{Dialect}
-use Rattle.rows.specs.Ids.{among, distinct}
 use Rattle.canon.proofs.Taken.{Within}
-use Rattle.mcache.specs.Messages.{ids_of}
 use Rattle.node.specs.Gateway.{told_of, lacking, request}
-use Rattle.history.specs.History.{State, gateway_of, Settings, Call, advertise, ask, after_all, refusal_at}
+use Rattle.history.specs.History.{State, gateway_of, Settings, Call, after_all}
 use Rattle.agreement.specs.Premises.{MessageSet, Alike, Premises}
-use Rattle.agreement.specs.Round.{lacked, Play, Fair, advert_of, request_of}
+use Rattle.agreement.specs.Round.{lacked, Play, Fair}
 use Rattle.agreement.specs.Holding.{Holding}
 use Rattle.agreement.proofs.Holding.{set-alike, holding-all}
 use Rattle.agreement.specs.HandOver.{asked_something, request-meant}
 use Rattle.agreement.proofs.Lacking.{fine, wants-exactly, wants-once, wants-count}
 use Rattle.agreement.proofs.Played.{advert-done, request-done, requested}
-
-pub record ExactRequest (p : Play) (a b : State) : Type 0 where
-  -- neither call is refused
-  pub advert-taken : refusal_at b (advertise p.topic p.windows (p.advert_out 0)) ≡ 0
-  pub ask-taken : refusal_at a (ask (p.ask_edition 0) (advert_of p b) (p.request_out 0)) ≡ 0
-  -- no bytes are written exactly where nothing is lacking
-  pub quiet : (request_of p a b ≡ []) ↔ (lacked p.topic a b ≡ [])
-  -- and else they are a body with one IWANT of these ids
-  pub ids : List (List ℕ)
-  pub names : (lacked p.topic a b ≡ [] → ⊥) → (d : Dialect) → Within d (request_of p a b) (request ids)
-  -- each once, and exactly those of the messages that are lacking
-  pub once : distinct ids ≡ true
-  pub exactly : (i : List ℕ) → among i ids ≡ among i (ids_of (lacked p.topic a b))
-  pub count : length ids ≡ length (lacked p.topic a b)
+use Rattle.agreement.specs.Request.{ExactRequest}
 
 -- of two lists as long as each other, one is empty where the other is
 empty-same : {A B : Type 0} (l : List A) (m : List B) → length l ≡ length m → l ≡ [] → m ≡ []

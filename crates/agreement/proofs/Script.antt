@@ -1,18 +1,13 @@
 -- Calls that are written out with messages of a set admit set members only.
-use Rattle.std.specs.Prelude.{◌≡◌, refl, Bool, true, ◌&&◌, List, [], ◌∷◌, ℕ}
+use Rattle.std.specs.Prelude.{◌≡◌, refl, true, List, ℕ}
 use Rattle.basis.specs.Cases.{both}
 use Rattle.rows.specs.Ids.{among}
 use Rattle.history.specs.History.{admit, heartbeat, ask, brought}
 use Rattle.history.proofs.Laws.{carried-brought}
-use Rattle.history.specs.Script.{Act, gets, beats, asks, calls_of, Written, nothing, got, beaten, asked}
+use Rattle.history.specs.Script.{Act, calls_of, Written, nothing, got, beaten, asked}
 use Rattle.agreement.specs.Premises.{Members, none_left, member}
 use Rattle.agreement.proofs.Holding.{member-none, member-some}
-
-unfoldable pub in_set : List (List ℕ) → List Act → Bool
-in_set set [] = true
-in_set set (gets ed body m id at ∷ xs) = among m set && in_set set xs
-in_set set (beats at ∷ xs) = in_set set xs
-in_set set (asks ed body out ∷ xs) = in_set set xs
+use Rattle.agreement.specs.Script.{in_set}
 
 pub script_members : (flags : ℕ) (set : List (List ℕ)) {clock : ℕ} {xs : List Act} → Written flags clock xs
     → in_set set xs ≡ true → Members flags set (calls_of xs)

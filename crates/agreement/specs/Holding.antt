@@ -10,7 +10,7 @@ use Rattle.node.specs.Gateway.{Gateway}
 use Rattle.node.specs.State.{rises_from}
 use Rattle.history.specs.History.{State, gateway_of, Settings, Call, admit, heartbeat, advertise, ask, serve}
 use Rattle.history.specs.History.{explain, brought}
-use Rattle.history.proofs.Laws.{Kept}
+use Rattle.history.specs.Laws.{Kept}
 use Rattle.agreement.specs.Rows.{Rows}
 
 -- ---- the messages got, each once, the oldest first

@@ -42,6 +42,7 @@ use Rattle.history.specs.History.{serve, explain}
 use Rattle.history.specs.History.{plan_in, after, after_all, reading, readings, beats, refusal_at, NoneRefused}
 use Rattle.history.specs.History.{all_done, done, admits, Placed, standing, where_accepted, brought, is_that}
 use Rattle.history.specs.History.{brings, times}
+use Rattle.history.specs.Laws.{started_by, Kept, Lasting, Set, TakesNone}
 
 -- ---- calls, and then more calls
 pub after-append : (cs ds : List Call) (s : State) → after_all (cs ++ ds) s ≡ after_all ds (after_all cs s)
@@ -84,10 +85,6 @@ pub node-clock : (s : State) → (gateway_of s).clock ≡ s.node.clock
 unfolding gateway_in
 node-clock s = refl
 
--- the gateway that settings start
-abbrev pub started_by : Settings → Gateway
-started_by x = started x.ttl x.max_seen x.history_len x.max_messages x.flags
-
 pub started-clock : (x : Settings) → (started_by x).clock ≡ 0
 unfolding started
 started-clock x = refl
@@ -105,9 +102,6 @@ unfolding after_beat
 after_beat-clock at g = refl
 
 -- ---- every state that calls leave from a fresh one is well formed, with its ids in the order of their expiries
-abbrev pub Kept : State → Type 0
-Kept s = Keeps s.node s.ids s.messages
-
 pub after-keeps : (c : Call) (s : State) → Kept s → Kept (after c s)
 unfolding after
 after-keeps (admit ed body i word at) s k =
@@ -241,9 +235,6 @@ pub history_flags : {x : Settings} {s : State} (calls : List Call) → Fresh x s
 history_flags {x} {s} calls f = all-flags calls s ∙ fresh-flags f
 
 -- ---- nor how long and how many ids are seen
-abbrev Lasting : Node → Node → Type 0
-Lasting n m = (n.ttl ≡ m.ttl) × (n.max_seen ≡ m.max_seen)
-
 plan_lasting : (n : Node) (ss : List ℕ) (at : ℕ) (p : Plan) → Lasting (admit_node n ss at p) n
 unfolding later_node
 plan_lasting n ss at (no r) = (refl, refl)
@@ -266,11 +257,6 @@ after-lasting (advertise topic windows out) s = (refl, refl)
 after-lasting (ask ed body out) s = (refl, refl)
 after-lasting (serve ed body second out) s = (refl, refl)
 after-lasting (explain id topic windows) s = (refl, refl)
-
--- they are those of the settings
-pub record Set (x : Settings) (g : Gateway) : Type 0 where
-  pub ttl : g.ttl ≡ x.ttl
-  pub max_seen : g.max_seen ≡ x.max_seen
 
 pub after-set : {x : Settings} (c : Call) (s : State) → Set x (gateway_of s) → Set x (gateway_of (after c s))
 unfolding gateway_in
@@ -348,9 +334,6 @@ brings-exactly flags m ed body i word at = (
 )
 
 -- ---- an admit takes what it brings under the gateway's flags, and nothing else
-abbrev TakesNone : Plan → Type 0
-TakesNone p = (r : Admit) × (p ≡ no r)
-
 module _ (s : State) (flags : ℕ) (same : (gateway_of s).flags ≡ flags) (ed : Edition) (body : List ℕ) (i : ℕ)
     (word : Bool) (at : ℕ) where
   here : s.node.cache.flags ≡ flags

@@ -11,24 +11,18 @@ use Rattle.node.specs.Gateway.{form_of}
 use Rattle.node.specs.Calls.{taken, held_at}
 use Rattle.node.specs.Laws.{is_new_lem}
 use Rattle.history.specs.History.{State, gateway_of, Settings, Fresh, admit, heartbeat, plan_in, after, after_all}
-use Rattle.history.specs.History.{brought, brings, times_got, count_at, times, times_new, times_duplicate}
+use Rattle.history.specs.History.{brought, brings, times_got, count_at, times, times_new}
 use Rattle.history.specs.History.{is_new as newAnswer, is_duplicate}
-use Rattle.history.proofs.Laws.{node-clock, started_by, Kept, after-keeps, fresh_keeps, fresh-starts, fresh-clock}
-use Rattle.history.proofs.Laws.{fresh-flags, admit-leaves, admit-clock, beat-leaves, beat-clock, after-flags}
-use Rattle.history.proofs.Laws.{carried-brought, brought_plan}
+use Rattle.history.specs.Laws.{started_by, Kept}
+use Rattle.history.proofs.Laws.{node-clock, after-keeps, fresh_keeps, fresh-starts, fresh-clock, fresh-flags}
+use Rattle.history.proofs.Laws.{admit-leaves, admit-clock, beat-leaves, beat-clock, after-flags, carried-brought}
+use Rattle.history.proofs.Laws.{brought_plan}
 use Rattle.history.specs.Script.{Act, gets, beats, asks, calls_of, gateway_after, got_by, got_in, new_by}
 use Rattle.history.specs.Script.{new_in}
 use Rattle.history.specs.Script.{Written, nothing, got, beaten, asked}
+use Rattle.history.specs.ScriptLaws.{Acted}
 
 -- ---- what follows for a state that calls leave from a fresh one, under its flags
-pub record Acted (flags : ℕ) (xs : List Act) (s : State) : Type 0 where
-  pub gateway : gateway_of (after_all (calls_of xs) s) ≡ gateway_after xs (gateway_of s)
-  pub times_got_lem : (m : List ℕ) → times_got flags m (calls_of xs) ≡ got_in m xs
-  pub times_new_lem : (m : List ℕ) → times_new flags m (calls_of xs) s ≡ new_in m xs (gateway_of s)
-  -- each time new or duplicate
-  pub answered : (m : List ℕ)
-      → got_in m xs ≡ times_new flags m (calls_of xs) s + times_duplicate flags m (calls_of xs) s
-
 -- the counts of one admit
 module _ (flags : ℕ) (s : State) (kept : Kept s) (ed : Edition) (body m id : List ℕ) (at : ℕ)
     (b : brought flags (admit ed body 0 true at) ≡ some m) (e : plan_in s ed body 0 true at ≡ taken m id) (k : List ℕ)

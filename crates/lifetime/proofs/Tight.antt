@@ -4,7 +4,8 @@ use Rattle.std.proofs.Common.{sym, ap, subst, ◌∙◌, arith}
 use Rattle.basis.specs.declared.Edition.TheVariants.{V11}
 use Rattle.node.specs.Gateway.{Gateway}
 use Rattle.history.specs.History.{State, gateway_of, heartbeat, after, after_all}
-use Rattle.history.proofs.Laws.{started_by, after_admit-clock}
+use Rattle.history.specs.Laws.{started_by}
+use Rattle.history.proofs.Laws.{after_admit-clock}
 use Rattle.history.specs.Script.{call_of, calls_of, gateway_after, Written, nothing, got}
 use Rattle.history.proofs.ScriptLaws.{fresh-leaves}
 use Rattle.history.specs.Samples.{message, id_of, message-carried, start}

@@ -9,7 +9,8 @@ use Rattle.rows.specs.Ids.{same_bytes}
 use Rattle.seen.specs.Entries.{until}
 use Rattle.node.specs.Gateway.{Gateway}
 use Rattle.history.specs.History.{State, gateway_of, Settings, Fresh, Call, after, after_all, reading}
-use Rattle.history.proofs.Laws.{Kept, after-keeps, all_keep, history_keeps}
+use Rattle.history.specs.Laws.{Kept}
+use Rattle.history.proofs.Laws.{after-keeps, all_keep, history_keeps}
 use Rattle.lifetime.specs.Lifetime.{made_new, NewAt, Twice, is_other, others_new, is_within, is_made, new_within}
 use Rattle.lifetime.specs.Steps.{Step, stayed, swept, entered, step_of, step-clock, clock-rises, new-step, at-clock}
 use Rattle.lifetime.specs.Steps.{before-clock}

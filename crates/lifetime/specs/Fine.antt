@@ -9,7 +9,8 @@ use Rattle.node.specs.Calls.{lent_of}
 use Rattle.node.specs.Exactly.{admit-faults, beat-faults, advertise-faults, explain-faults, ask-faults, serve-faults}
 use Rattle.history.specs.History.{State, Settings, Fresh, Call, admit, heartbeat, advertise, ask, serve, explain}
 use Rattle.history.specs.History.{after_all, refusal_at}
-use Rattle.history.proofs.Laws.{Kept, history_keeps}
+use Rattle.history.specs.Laws.{Kept}
+use Rattle.history.proofs.Laws.{history_keeps}
 
 -- ---- a number that is from 40 on only where the lent state's is, which is 0
 small : (x l : ℕ) → ((k : ℕ) → bad_setting ≤ k → (x ≡ k) ↔ (l ≡ k)) → l ≡ 0 → x < bad_setting

@@ -19,7 +19,8 @@ use Rattle.rows.specs.IdsLaws.{same_self, same_equal}
 use Rattle.seen.specs.Entries.{Entry, holds, until, live}
 use Rattle.node.specs.Gateway.{Gateway}
 use Rattle.history.specs.History.{State, gateway_of, Settings, Call, after, after_all}
-use Rattle.history.proofs.Laws.{Kept, after-keeps, Set, after-set}
+use Rattle.history.specs.Laws.{Kept, Set}
+use Rattle.history.proofs.Laws.{after-keeps, after-set}
 use Rattle.lifetime.specs.Lifetime.{is_other, made_new, others_new}
 use Rattle.lifetime.specs.Steps.{Step, stayed, swept, entered, step_of, step-clock}
 

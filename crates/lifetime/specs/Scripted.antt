@@ -14,7 +14,8 @@ use Rattle.node.specs.Calls.{taken}
 use Rattle.node.specs.Laws.{admit-says}
 use Rattle.history.specs.History.{State, gateway_of, Settings, Fresh, Call, plan_in, answer_in, after, after_all}
 use Rattle.history.specs.History.{reading}
-use Rattle.history.proofs.Laws.{node-clock, started_by, Kept, after-keeps, history_keeps, fresh_keeps}
+use Rattle.history.specs.Laws.{started_by, Kept}
+use Rattle.history.proofs.Laws.{node-clock, after-keeps, history_keeps, fresh_keeps}
 use Rattle.history.proofs.Laws.{fresh-starts, fresh-flags, fresh-clock, after-flags, history_flags, carried-brought}
 use Rattle.history.proofs.Laws.{after-append, brought_plan, after_admit-clock, after_beat-clock}
 use Rattle.history.specs.Script.{Carries, Act, gets, beats, asks, call_of, calls_of, gateway_by, gateway_after, Written}

@@ -19,7 +19,8 @@ use Rattle.node.specs.Calls.{Plan, no, taken}
 use Rattle.node.specs.Laws.{plan_takes, admit-says}
 use Rattle.history.specs.History.{State, gateway_of, Call, admit, heartbeat, advertise, ask, serve}
 use Rattle.history.specs.History.{explain, plan_in, answer_in, after, after_all, reading, is_new as answersNew}
-use Rattle.history.proofs.Laws.{node-clock, Kept, after-keeps, admit-none, admit-leaves}
+use Rattle.history.specs.Laws.{Kept}
+use Rattle.history.proofs.Laws.{node-clock, after-keeps, admit-none, admit-leaves}
 use Rattle.history.proofs.Laws.{beat-leaves, refused-stays}
 use Rattle.lifetime.specs.Lifetime.{taken_form, made_new, NewAt}
 use Rattle.lifetime.specs.Back.{beat-back}

@@ -22,7 +22,7 @@ use Rattle.node.specs.declared.Admit.TheVariants as answer
 use Rattle.node.specs.Gateway.{started, marked, is_new, after_admit}
 use Rattle.node.specs.State.{legal_settings}
 use Rattle.history.specs.History.{Settings, Fresh, after, after_all, answer_in, reading}
-use Rattle.history.proofs.Laws.{started_by}
+use Rattle.history.specs.Laws.{started_by}
 use Rattle.history.specs.Script.{Act, gets, call_of, calls_of, gateway_by, gateway_after, Written, nothing, got}
 use Rattle.history.specs.Samples.{signature, message, unsigned, id_of, message_body, unsigned_body, message-carried, start}
 use Rattle.history.specs.Samples.{signed-carried, unsigned-carried, start-fresh}
