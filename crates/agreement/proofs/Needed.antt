@@ -477,7 +477,6 @@ needs_undisturbed = record { lacks = refl; asks = refl }
 -- ---- no second body is lent in a round
 -- a round as those of Round, but for the second body that its serve is lent
 module _ (p : Play) (second : List ℕ) (a b : State) where
-
   withheld : length (lacked p.topic a b) ≡ 1 → reply_with p second a b ≡ served.Reply 0 0 0 → Withheld p second a b
   unfolding admits after_all after
   withheld one none = record { lacks = one; answers = none; still = λ at. rw none }
