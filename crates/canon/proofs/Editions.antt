@@ -15,7 +15,8 @@ use Rattle.schema.specs.Schema.{added_in}
 use Rattle.schema.specs.Slots.{has_along, has_field}
 use Rattle.meaning.specs.Editions.{declines_along, declines}
 use Rattle.canon.specs.Canon.{in_order, each_along, held_part, canon, entries_of, merged_of, body_part, canon_body}
-use Rattle.canon.proofs.Written.{added_part, added-order}
+use Rattle.canon.specs.Written.{added_part}
+use Rattle.canon.proofs.Written.{added-order}
 
 -- nothing is written of a field that is not there
 each-absent : (g : List ℕ → List ℕ) (n : ℕ) (s : List ℕ) (w : Fields) → has_along n w ≡ false → each_along g n s w ≡ []

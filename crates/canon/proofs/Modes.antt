@@ -32,6 +32,7 @@ use Rattle.rpc.specs.Encode.{sign_prefix}
 use Rattle.canon.specs.Canon.{own_part, each_along, each_of, held_part, part_with, canon, entries_of, merged_of}
 use Rattle.canon.specs.Canon.{body_part, canon_body, sign_of}
 use Rattle.canon.specs.CanonLaws.{same-order, canon-fields}
+use Rattle.canon.specs.Modes.{SameBytes}
 
 -- ---- what is made anew stands in a submessage
 formed-anew : (i j : Kind) (form : Form) → formed_as i form ≡ held.Anew j → Sub i form ≡ Sub j Anew
@@ -70,9 +71,6 @@ module _ (k : Kind) (s : List ℕ) (m : ℕ) (g h : List ℕ → List ℕ)
         ∙ each_along_lem (fields_of Plain s) n (sym (count_along_lem Plain k s) ∙ q)
 
 -- ---- a message
-abbrev SameBytes : Kind → Type 0
-SameBytes k = (s : List ℕ) (n : ℕ) → counted Plain k s ≡ Records n → canon Groups k s ≡ canon Plain k s
-
 held_same : (k : Kind) (s : List ℕ) (m n : ℕ) (h : Held) → held_of (row_of k m) ≡ h → counted Plain k s ≡ Records n
     → ((j : Kind) → rank j < rank k → SameBytes j)
     → held_part Groups (canon Groups) m s h ≡ held_part Plain (canon Plain) m s h

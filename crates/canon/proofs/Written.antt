@@ -44,6 +44,7 @@ use Rattle.meaning.specs.Back.{number-value, whole_part, flat, any, joined-flat,
 use Rattle.canon.specs.Canon.{in_order, placed, slot_in, figured, numbered, own_part, each_along, each_of, held_part}
 use Rattle.canon.specs.Canon.{canon, entries_of, merged_of, body_part, canon_body, sign_of}
 use Rattle.canon.specs.CanonLaws.{canon-fields}
+use Rattle.canon.specs.Written.{added_part}
 use Rattle.canon.specs.Shorter.{signed_fields, signed-shorter, repeated-append}
 
 -- ---- a singular field
@@ -181,11 +182,6 @@ canon-idontwant mode _ _ (is-idontwant {s = s} {es = es} g) =
     canon-fields mode kind.ControlIDontWant s ∙ simp (append-nil, a)
 
 -- ---- a control's entries
--- those of the fields that an edition adds
-unfoldable pub added_part : Mode → Edition → List ℕ → List ℕ
-added_part mode V11 p = []
-added_part mode V12 p = held_part mode (canon mode) 5 p (held.Anew kind.ControlIDontWant)
-
 added_of : (mode : Mode) (e : Edition) (s : List ℕ) (es : List Entry) (ds : List ControlIDontWant) → Body mode s es
     → Pairs (IsIDontWant mode) (idontwants_in e es) ds
     → added_part mode e s ≡ repeated (λ d. bytes_field 5 (encode_iDont_want d)) ds

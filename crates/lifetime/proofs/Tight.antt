@@ -1,5 +1,5 @@
 -- A computed history with calls that step back, and what follows for them.
-use Rattle.std.specs.Prelude.{◌≡◌, refl, List, [], ◌∷◌}
+use Rattle.std.specs.Prelude.{◌≡◌, refl, [], ◌∷◌}
 use Rattle.std.proofs.Common.{sym, ap, subst, ◌∙◌, arith}
 use Rattle.basis.specs.declared.Edition.TheVariants.{V11}
 use Rattle.node.specs.Gateway.{Gateway}
@@ -9,15 +9,9 @@ use Rattle.history.proofs.Laws.{after_admit-clock}
 use Rattle.history.specs.Script.{call_of, calls_of, gateway_after, Written, nothing, got}
 use Rattle.history.proofs.ScriptLaws.{fresh-leaves}
 use Rattle.history.specs.Samples.{message, id_of, message-carried, start}
-use Rattle.lifetime.specs.Back.{StepsBack, Item, own, extra, InsertedBack, no_more, own-next, back-next, Unmoved}
+use Rattle.lifetime.specs.Back.{StepsBack, InsertedBack, no_more, own-next, back-next, Unmoved}
 use Rattle.lifetime.proofs.Back.{back-stays, back_changes_nothing}
-use Rattle.lifetime.specs.Tight.{signed_at, usual, usual-fresh}
-
--- ---- calls that step back: between an admit at 100 and one at 1099, an admit at 99 and a heartbeat at 0
-abbrev pub steps : List Item
-steps =
-    own (call_of (signed_at 1 100)) ∷ extra (call_of (signed_at 1 99)) ∷ extra (heartbeat 0)
-    ∷ own (call_of (signed_at 1 1099)) ∷ []
+use Rattle.lifetime.specs.Tight.{signed_at, usual, usual-fresh, steps}
 
 alone-written_100 : Written 0 0 (signed_at 1 100 ∷ [])
 alone-written_100 = got 0 100 (message-carried 1 V11) (omega arith) nothing

@@ -21,12 +21,13 @@ use Rattle.mcache.specs.State.{legal}
 use Rattle.node.specs.declared.Admit.TheVariants as answer
 use Rattle.node.specs.Gateway.{started, marked, is_new, after_admit}
 use Rattle.node.specs.State.{legal_settings}
-use Rattle.history.specs.History.{Settings, Fresh, after, after_all, answer_in, reading}
+use Rattle.history.specs.History.{Settings, Fresh, heartbeat, after, after_all, answer_in, reading}
 use Rattle.history.specs.Laws.{started_by}
 use Rattle.history.specs.Script.{Act, gets, call_of, calls_of, gateway_by, gateway_after, Written, nothing, got}
 use Rattle.history.specs.Samples.{signature, message, unsigned, id_of, message_body, unsigned_body, message-carried, start}
 use Rattle.history.specs.Samples.{signed-carried, unsigned-carried, start-fresh}
 use Rattle.lifetime.specs.Lifetime.{NewAt, Twice, others_new}
+use Rattle.lifetime.specs.Back.{Item, own, extra}
 use Rattle.lifetime.specs.Scripted.{form_by, others_by, script_makes, script_twice, script_between, script_again}
 
 -- ---- the calls: an admit of the sample with that seqno, with a signature or without, at a reading
@@ -226,3 +227,9 @@ unfolding signature message unsigned is_signed slots_of with_field set_place rol
     inserted newest until held put gateway_after others_by
 other_mark =
     new-again (signed_at 1 100) same-unsigned (signed_at 1 100) 100 100 1 marks_fresh marks_written refl refl refl refl refl
+
+-- ---- calls that step back: between an admit at 100 and one at 1099, an admit at 99 and a heartbeat at 0
+abbrev pub steps : List Item
+steps =
+    own (call_of (signed_at 1 100)) ∷ extra (call_of (signed_at 1 99)) ∷ extra (heartbeat 0)
+    ∷ own (call_of (signed_at 1 1099)) ∷ []
