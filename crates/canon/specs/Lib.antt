@@ -1,6 +1,6 @@
 -- To be believed: Messages (`Nth`).
 -- Cited by contracts, and joined to these by theorems: Canon (by Written, in proofs/).
--- Theorems of proofs/ speak of: Written, Modes.
+-- What theorems in proofs speak of: Written, Modes.
 -- Theorems: Shorter, Messages.
 -- On the way to them: CanonLaws, Lengths.
 pub mod Canon
