@@ -30,7 +30,10 @@ part_copied s after l a e k h i z =
     z ∙ set-fits _ 0 (between s a e) l (omega arith) ∙ all-written (between s a e) l n
 
 -- ---- reading
-pub seen_read : (s expiry len l : List ℕ) (start count : ℕ) → length s ≡ node_size → start ≡ word_at s 24 → count ≡ word_at s 32 → expiry ≡ gathered 8 256 (drop 80 s) → length l ≡ 256 → len ≡ set_in (length (between s 2768 3024)) 0 (between s 2768 3024) l → ◌≡◌ {A = SeenCache} (record { start = start; count = count; expiry = expiry; len = len }) (node_in s).seen
+pub seen_read : (s expiry len l : List ℕ) (start count : ℕ) → length s ≡ node_size
+    → start ≡ word_at s 24 → count ≡ word_at s 32 → expiry ≡ gathered 8 256 (drop 80 s) → length l ≡ 256
+    → len ≡ set_in (length (between s 2768 3024)) 0 (between s 2768 3024) l
+    → ◌≡◌ {A = SeenCache} (record { start = start; count = count; expiry = expiry; len = len }) (node_in s).seen
 unfolding node_in
 seen_read s expiry len l start count h a b c i d =
     let e : len ≡ between s 2768 3024 = part_copied s len l 2768 3024 (omega arith) (omega arith) i d in

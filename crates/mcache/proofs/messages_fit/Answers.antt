@@ -104,13 +104,17 @@ loop-i-preserved c = (
   omega arith,
   gives_more _ c.args.ring c.args.lens.now c.args.id_lens.now c.args.ids.now (table c.args.counts.now c.args.starts.now c.args.sizes.now) c.args.store.now c.loop-i.i c.loop-i.invariant.1 c.loop-i-test.true
       (subst (λ (p : ℕ). gives_at c.args.flags c.args.lens.now c.args.id_lens.now
-      c.args.ids.now (table c.args.counts.now c.args.starts.now c.args.sizes.now) c.args.store.now p ≡ true) c.place-p.ensures (gives-says c.args.flags c.args.lens.now c.args.id_lens.now c.args.ids.now (table c.args.counts.now c.args.starts.now c.args.sizes.now) c.args.store.now c.place-p.result c.kept_with.result c.if-n-gt-MESSAGE_SIZE.false c.kept_with.ensures ∙ c.if-kept_with.true)),
+      c.args.ids.now (table c.args.counts.now c.args.starts.now c.args.sizes.now) c.args.store.now p ≡ true)
+      c.place-p.ensures (gives-says c.args.flags c.args.lens.now c.args.id_lens.now c.args.ids.now (table c.args.counts.now c.args.starts.now c.args.sizes.now) c.args.store.now
+      c.place-p.result c.kept_with.result c.if-n-gt-MESSAGE_SIZE.false c.kept_with.ensures ∙ c.if-kept_with.true)),
 )
 
 pub returns-else-kept_with : goal.returns-else-kept_with
 returns-else-kept_with c =
     gives-not _ c.args.ring c.args.lens.now c.args.id_lens.now c.args.ids.now (table c.args.counts.now c.args.starts.now c.args.sizes.now) c.args.store.now c.loop-i.i c.loop-i.invariant.1 c.loop-i-test.true
-    (subst (λ (p : ℕ). gives_at c.args.flags c.args.lens.now c.args.id_lens.now c.args.ids.now (table c.args.counts.now c.args.starts.now c.args.sizes.now) c.args.store.now p ≡ false) c.place-p.ensures (gives-says c.args.flags c.args.lens.now c.args.id_lens.now c.args.ids.now (table c.args.counts.now c.args.starts.now c.args.sizes.now) c.args.store.now c.place-p.result c.kept_with.result c.if-n-gt-MESSAGE_SIZE.false c.kept_with.ensures ∙ c.if-kept_with.false))
+    (subst (λ (p : ℕ). gives_at c.args.flags c.args.lens.now c.args.id_lens.now c.args.ids.now (table c.args.counts.now c.args.starts.now c.args.sizes.now) c.args.store.now p ≡ false)
+    c.place-p.ensures (gives-says c.args.flags c.args.lens.now c.args.id_lens.now c.args.ids.now (table c.args.counts.now c.args.starts.now c.args.sizes.now) c.args.store.now
+    c.place-p.result c.kept_with.result c.if-n-gt-MESSAGE_SIZE.false c.kept_with.ensures ∙ c.if-kept_with.false))
 
 pub returns : goal.returns
 returns c =

@@ -5,7 +5,11 @@ use Rattle.node.proofs.Node.announce.Goals as goal
 
 pub returns-then-n-eq0 : goal.returns-then-n-eq0
 returns-then-n-eq0 c =
-    let a = c.args in let h = tell_none a.self a.cache_store.now a.topic.now a.windows c.requires.0 c.tell-told.result.count c.tell-told.result.rows (tell_usable a.self.cache a.cache_store.now a.topic.now a.windows c.requires.0 _ c.tell-told.ensures).1.0 (tell_usable a.self.cache a.cache_store.now a.topic.now a.windows c.requires.0 _ c.tell-told.ensures).1.1 a.out.now c.if-n-eq0.true in record { value = h.0; out_after = h.1 }
+    let a = c.args in
+    let u = tell_usable a.self.cache a.cache_store.now a.topic.now a.windows c.requires.0 _ c.tell-told.ensures in
+    let h = tell_none a.self a.cache_store.now a.topic.now a.windows c.requires.0 c.tell-told.result.count c.tell-told.result.rows u.1.0 u.1.1
+    a.out.now c.if-n-eq0.true in
+    record { value = h.0; out_after = h.1 }
 
 pub emit_advertisement-needed-requires : goal.emit_advertisement-needed-requires
 emit_advertisement-needed-requires c =
