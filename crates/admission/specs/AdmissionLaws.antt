@@ -1,14 +1,13 @@
 -- Laws of admission, under all flags: a message that is taken has an id and keeps the limits; 27 comes from the host's
 -- word alone; and which id a message gives.
-use Rattle.std.specs.Prelude.{ℕ, ◌+◌, ◌-◌, ◌≤◌, ◌≡◌, refl, Bool, true, false, not, ◌&&◌, ◌||◌, List, [], ◌∷◌, length, ltb, eqb}
-use Rattle.std.proofs.Common.{sym, ap, ap₂, subst, ◌∙◌, arith}
+use Rattle.std.specs.Prelude.{Result, Ok, Err, ℕ, ◌+◌, ◌-◌, ◌≤◌, ◌≡◌, refl, Bool, true, false, not, ◌&&◌, ◌||◌, List, [], ◌∷◌, length, ltb, eqb}
+use Rattle.std.proofs.Common.{sym, ap, ap₂, ◌∙◌, arith}
 use Rattle.std.proofs.Math.Bool.{or-true}
 use borrow.Author.Tests.{ltb-true, ltb-false, eqb-true, eqb-false}
 use Rattle.basis.specs.declared.Mode.{Mode}
 use Rattle.basis.specs.Dialect.{mode_of}
 use Rattle.basis.specs.declared.Dialect.{Dialect}
-use Rattle.basis.specs.Cases.{either, clash}
-use Rattle.protobuf.specs.declared.Checked.TheVariants.{Fine}
+use Rattle.basis.specs.Cases.{either, clash, of-ok, of-ok-two}
 use Rattle.protobuf.specs.declared.Field.{Field}
 use Rattle.protobuf.specs.declared.WireError.{WireError}
 use Rattle.protobuf.specs.Walk.{Fields, walk_at, between, is_bytes}
@@ -18,17 +17,12 @@ use Rattle.rows.specs.IdsLaws.{same_self, same_equal}
 use Rattle.schema.specs.declared.Kind.TheVariants as kind
 use Rattle.schema.specs.declared.Form.TheVariants.{Whole}
 use Rattle.schema.specs.declared.Role.TheVariants.{Sub}
-use Rattle.schema.specs.declared.Counted.{Counted}
-use Rattle.schema.specs.declared.Counted.TheVariants as count
 use Rattle.schema.specs.declared.Place.{Place}
 use Rattle.schema.specs.declared.Place.TheVariants as place
 use Rattle.schema.specs.Schema.{len_role, role_of, own_of}
 use Rattle.schema.specs.Count.{role_count, count_along, counted}
 use Rattle.schema.specs.CountLaws.{count_along_lem, plus-fits, then-fits}
 use Rattle.schema.specs.Slots.{slots_of}
-use Rattle.ids.specs.declared.MessageAt.TheVariants.{At}
-use Rattle.ids.specs.declared.MessageId.{MessageId}
-use Rattle.ids.specs.declared.MessageId.TheVariants as id
 use Rattle.schema.specs.Accept.{accept_of}
 use Rattle.ids.specs.Ids.{message_along, message_at, id_parts, id_bytes}
 use Rattle.schema.specs.AcceptLaws.{accept_records}
@@ -39,9 +33,9 @@ use Rattle.admission.specs.declared.Unfit.TheVariants.{KeyWithoutSignature, Miss
 use Rattle.admission.specs.declared.Unfit.TheVariants.{InvalidSignatureLength, TopicCount, TopicTooLong}
 use Rattle.admission.specs.declared.Unfit.TheVariants.{MessageTooLong, NotPeerId, InvalidKey}
 use Rattle.admission.specs.declared.Unfit.TheVariants.{KeyPeerIdMismatch}
-use Rattle.admission.specs.declared.Admission.{Admission}
-use Rattle.admission.specs.declared.Admission.TheVariants as admission
-use Rattle.admission.specs.Admission.{topics_of, first_long, on_limits, on_word, is_key, key_matches, key_inside, on_key}
+use Rattle.ids.specs.declared.IdError.TheVariants as noid
+use Rattle.ids.specs.declared.IdError.{IdError}
+use Rattle.admission.specs.Admission.{Parts, topics_of, first_long, on_limits, on_word, is_key, key_matches, key_inside, on_key}
 use Rattle.admission.specs.Admission.{on_signature, is_peer_id, on_peer, part_at, sender_of, on_id, admission_of}
 use Rattle.admission.specs.Admission.{is_there, is_signed, vouched, id_given, where_read, gives_id}
 use Rattle.admission.specs.Flags.{allows_unsigned}
@@ -84,8 +78,8 @@ pub record Passes (flags : ℕ) (p : List ℕ) (word : Bool) : Type 0 where
   pub limits : Limits (mode_of flags) p
 
 module _ (a e b f : ℕ) where
-  of-limits : (mode : Mode) (p : List ℕ) (r : Admission) → on_limits mode p r ≡ admission.Fit a e b f
-      → (r ≡ admission.Fit a e b f)
+  of-limits : (mode : Mode) (p : List ℕ) (r : Result Parts Unfit) → on_limits mode p r ≡ Ok ((a, e), (b, f))
+      → (r ≡ Ok ((a, e), (b, f)))
       × Limits mode p
   unfolding on_limits
   of-limits mode p r h =
@@ -104,14 +98,14 @@ module _ (a e b f : ℕ) where
       )))
       (λ v. clash (let k = simp (t, u, v) at h in cc))))
 
-  of_word : (word : Bool) (r : Admission) → on_word word r ≡ admission.Fit a e b f → (word ≡ true)
-      × (r ≡ admission.Fit a e b f)
+  of_word : (word : Bool) (r : Result Parts Unfit) → on_word word r ≡ Ok ((a, e), (b, f)) → (word ≡ true)
+      × (r ≡ Ok ((a, e), (b, f)))
   of_word true r h = (refl, h)
   of_word false r h = clash (cc)
 
   -- the key is there and may be the sender's, or the sender has it in itself
-  of-key : (p s : List ℕ) (q : Place) (r : Admission) → on_key p s q r ≡ admission.Fit a e b f
-      → (key_fits p s q ≡ true) × (r ≡ admission.Fit a e b f)
+  of-key : (p s : List ℕ) (q : Place) (r : Result Parts Unfit) → on_key p s q r ≡ Ok ((a, e), (b, f))
+      → (key_fits p s q ≡ true) × (r ≡ Ok ((a, e), (b, f)))
   of-key p s place.Absent r h =
       either (key_inside s) (λ t. (t, simp t at h)) (λ t. clash (let z = simp t at h in cc))
   of-key p s (place.Present x y) r h =
@@ -120,9 +114,9 @@ module _ (a e b f : ℕ) where
       (λ u. clash (let z = simp (t, u) at h in cc)))
       (λ t. clash (let z = simp t at h in cc))
 
-  module _ (u : Bool) (p s : List ℕ) (word : Bool) (l : Admission) where
-    of-signature : (q k : Place) → on_signature u q k (on_key p s k (on_word word l)) l ≡ admission.Fit a e b f
-        → Stood u p s word q k × (l ≡ admission.Fit a e b f)
+  module _ (u : Bool) (p s : List ℕ) (word : Bool) (l : Result Parts Unfit) where
+    of-signature : (q k : Place) → on_signature u q k (on_key p s k (on_word word l)) l ≡ Ok ((a, e), (b, f))
+        → Stood u p s word q k × (l ≡ Ok ((a, e), (b, f)))
     of-signature place.Absent place.Absent h =
         either u (λ t. (bare t, simp t at h)) (λ t. clash (let z = simp t at h in cc))
     of-signature place.Absent (place.Present x y) h = clash (cc)
@@ -134,44 +128,43 @@ module _ (a e b f : ℕ) where
         (signed (record { start = x; next = y; there = refl; size = eqb-true (y - x) 64 t }) g.0 w.0, w.1))
         (λ t. clash (let z = simp t at h in cc))
 
-  of-peer : (s : List ℕ) (r : Admission) → on_peer s r ≡ admission.Fit a e b f
-      → (is_peer_id s ≡ true) × (r ≡ admission.Fit a e b f)
+  of-peer : (s : List ℕ) (r : Result Parts Unfit) → on_peer s r ≡ Ok ((a, e), (b, f))
+      → (is_peer_id s ≡ true) × (r ≡ Ok ((a, e), (b, f)))
   of-peer s r h = either (is_peer_id s) (λ t. (t, simp t at h)) (λ t. clash (let z = simp t at h in cc))
 
-  of-id : (flags : ℕ) (p : List ℕ) (word : Bool) (i : MessageId) → on_id flags p word i ≡ admission.Fit a e b f
-      → (i ≡ id.Parts a e b f) × Passes flags p word
-  of-id flags p word id.MissingFrom h = clash (cc)
-  of-id flags p word (id.InvalidFrom n) h = clash (cc)
-  of-id flags p word id.InvalidSeqno h =
-      let r = of-peer (sender_of (mode_of flags) p) (admission.Unfit InvalidSeqno) h in clash (let z = r.1 in cc)
-  of-id flags p word (id.Parts x y z w) h =
+  of-id : (flags : ℕ) (p : List ℕ) (word : Bool) (i : Result Parts IdError) → on_id flags p word i ≡ Ok ((a, e), (b, f))
+      → (i ≡ Ok ((a, e), (b, f))) × Passes flags p word
+  of-id flags p word (Err noid.MissingFrom) h = clash (cc)
+  of-id flags p word (Err (noid.InvalidFrom n)) h = clash (cc)
+  of-id flags p word (Err noid.InvalidSeqno) h =
+      let r = of-peer (sender_of (mode_of flags) p) (Err InvalidSeqno) h in clash (let z = r.1 in cc)
+  of-id flags p word (Ok ((x, y), (z, w))) h =
       let u = of-peer (sender_of (mode_of flags) p) _ h in
       let s = of-signature (allows_unsigned flags) p (sender_of (mode_of flags) p) word
-      (on_limits (mode_of flags) p (admission.Fit x y z w))
+      (on_limits (mode_of flags) p (Ok ((x, y), (z, w))))
       (slots_of (mode_of flags) kind.RawMessage p).fourth (slots_of (mode_of flags) kind.RawMessage p).fifth u.1 in
-      let l = of-limits (mode_of flags) p (admission.Fit x y z w) s.1 in
-      let g = l.0 in
-      (cc, record { peer = u.0; stood = s.0; limits = l.1 })
+      let l = of-limits (mode_of flags) p (Ok ((x, y), (z, w))) s.1 in
+      (ap Ok (of-ok l.0), record { peer = u.0; stood = s.0; limits = l.1 })
 
 -- its id is that of id_parts
-pub fit_parts : (flags : ℕ) (p : List ℕ) (word : Bool) (a e b f : ℕ) → admission_of flags p word ≡ admission.Fit a e b f
-    → id_parts (mode_of flags) p ≡ id.Parts a e b f
+pub fit_parts : (flags : ℕ) (p : List ℕ) (word : Bool) (a e b f : ℕ) → admission_of flags p word ≡ Ok ((a, e), (b, f))
+    → id_parts (mode_of flags) p ≡ Ok ((a, e), (b, f))
 unfolding admission_of
 fit_parts flags p word a e b f h = (of-id a e b f flags p word (id_parts (mode_of flags) p) h).0
 
 -- and so are the sender's bytes
-pub sender-is : (mode : Mode) (p : List ℕ) (a e b f : ℕ) → id_parts mode p ≡ id.Parts a e b f
+pub sender-is : (mode : Mode) (p : List ℕ) (a e b f : ℕ) → id_parts mode p ≡ Ok ((a, e), (b, f))
     → sender_of mode p ≡ between p a e
 sender-is mode p a e b f h = ap (part_at p) (parts-there mode p a e b f h).0
 
 -- it passes the tests behind that
-pub fit-passes : (flags : ℕ) (p : List ℕ) (word : Bool) (a e b f : ℕ) → admission_of flags p word ≡ admission.Fit a e b f
+pub fit-passes : (flags : ℕ) (p : List ℕ) (word : Bool) (a e b f : ℕ) → admission_of flags p word ≡ Ok ((a, e), (b, f))
     → Passes flags p word
 unfolding admission_of
 fit-passes flags p word a e b f h = (of-id a e b f flags p word (id_parts (mode_of flags) p) h).1
 
 -- it keeps the limits on topics and size
-pub fit-limits : (flags : ℕ) (p : List ℕ) (word : Bool) (a e b f : ℕ) → admission_of flags p word ≡ admission.Fit a e b f
+pub fit-limits : (flags : ℕ) (p : List ℕ) (word : Bool) (a e b f : ℕ) → admission_of flags p word ≡ Ok ((a, e), (b, f))
     → Limits (mode_of flags) p
 fit-limits flags p word a e b f h = (fit-passes flags p word a e b f h).limits
 
@@ -182,7 +175,7 @@ stood-vouched {u} (signed {q} g key w) = rw w
 stood-vouched {word} (bare t) = rw t (or-true word)
 
 pub fit-vouched : (flags : ℕ) (p : List ℕ) (word : Bool) (a e b f : ℕ)
-    → admission_of flags p word ≡ admission.Fit a e b f
+    → admission_of flags p word ≡ Ok ((a, e), (b, f))
     → vouched flags p word ≡ true
 unfolding vouched is_signed
 fit-vouched flags p word a e b f h = stood-vouched (fit-passes flags p word a e b f h).stood
@@ -193,7 +186,7 @@ stood-signed : {u : Bool} {p s : List ℕ} {word : Bool} {q k : Place} → Stood
 stood-signed (signed g key w) off = ap is_there g.there
 stood-signed (bare t) off = clash (cc)
 
-pub fit-signed : (flags : ℕ) (p : List ℕ) (word : Bool) (a e b f : ℕ) → admission_of flags p word ≡ admission.Fit a e b f
+pub fit-signed : (flags : ℕ) (p : List ℕ) (word : Bool) (a e b f : ℕ) → admission_of flags p word ≡ Ok ((a, e), (b, f))
     → allows_unsigned flags ≡ false → is_signed (mode_of flags) p ≡ true
 unfolding is_signed
 fit-signed flags p word a e b f h off = stood-signed (fit-passes flags p word a e b f h).stood off
@@ -210,13 +203,13 @@ topic-short t (j ∷ l) h k =
     (λ v. topic-short t l (simp u at h) (simp v at k)))
 
 -- its id has 2 to 128 bytes
-pub fit-id : (flags : ℕ) (p : List ℕ) (word : Bool) (a e b f : ℕ) → admission_of flags p word ≡ admission.Fit a e b f
+pub fit-id : (flags : ℕ) (p : List ℕ) (word : Bool) (a e b f : ℕ) → admission_of flags p word ≡ Ok ((a, e), (b, f))
     → (2 ≤ length (id_bytes p a e b f)) × (length (id_bytes p a e b f) ≤ 128)
 fit-id flags p word a e b f h = id_size_lem (mode_of flags) p a e b f (fit_parts flags p word a e b f h)
 
 -- ---- the host's word matters for a message with a signature alone
 -- a message that is vouched for is answered as with the word
-word_same : (u : Bool) (q k : Place) (p s : List ℕ) (word : Bool) (l : Admission)
+word_same : (u : Bool) (q k : Place) (p s : List ℕ) (word : Bool) (l : Result Parts Unfit)
     → (word || (u && not (is_there q))) ≡ true
     → on_signature u q k (on_key p s k (on_word word l)) l ≡ on_signature u q k (on_key p s k (on_word true l)) l
 word_same u q k p s true l h = refl
@@ -225,17 +218,17 @@ word_same u place.Absent (place.Present x y) p s false l h = refl
 word_same u (place.Present x y) k p s false l h = either u (λ t. clash (let z = rw t at h in cc))
     (λ t. clash (let z = rw t at h in cc))
 
-id-vouched : (flags : ℕ) (p : List ℕ) (word : Bool) (i : MessageId) → vouched flags p word ≡ true
+id-vouched : (flags : ℕ) (p : List ℕ) (word : Bool) (i : Result Parts IdError) → vouched flags p word ≡ true
     → on_id flags p word i ≡ on_id flags p true i
 unfolding vouched is_signed
-id-vouched flags p word id.MissingFrom h = refl
-id-vouched flags p word (id.InvalidFrom n) h = refl
-id-vouched flags p word id.InvalidSeqno h = refl
-id-vouched flags p word (id.Parts a e b f) h =
+id-vouched flags p word (Err noid.MissingFrom) h = refl
+id-vouched flags p word (Err (noid.InvalidFrom n)) h = refl
+id-vouched flags p word (Err noid.InvalidSeqno) h = refl
+id-vouched flags p word (Ok ((a, e), (b, f))) h =
     ap (on_peer (sender_of (mode_of flags) p)) (word_same (allows_unsigned flags)
     (slots_of (mode_of flags) kind.RawMessage p).fourth
     (slots_of (mode_of flags) kind.RawMessage p).fifth p (sender_of (mode_of flags) p) word
-    (on_limits (mode_of flags) p (admission.Fit a e b f)) h)
+    (on_limits (mode_of flags) p (Ok ((a, e), (b, f)))) h)
 
 pub vouched-same : (flags : ℕ) (p : List ℕ) (word : Bool) → vouched flags p word ≡ true
     → admission_of flags p word ≡ admission_of flags p true
@@ -243,21 +236,21 @@ unfolding admission_of
 vouched-same flags p word h = id-vouched flags p word (id_parts (mode_of flags) p) h
 
 -- so one that is taken is taken with it
-pub fit-true : (flags : ℕ) (p : List ℕ) (word : Bool) (a e b f : ℕ) → admission_of flags p word ≡ admission.Fit a e b f
-    → admission_of flags p true ≡ admission.Fit a e b f
+pub fit-true : (flags : ℕ) (p : List ℕ) (word : Bool) (a e b f : ℕ) → admission_of flags p word ≡ Ok ((a, e), (b, f))
+    → admission_of flags p true ≡ Ok ((a, e), (b, f))
 fit-true flags p word a e b f h = sym (vouched-same flags p word (fit-vouched flags p word a e b f h)) ∙ h
 
 -- ---- 27 comes from the host's word alone
 -- without it no message with a signature is taken
 pub no_word : (flags : ℕ) (p : List ℕ) (a e b f : ℕ) → is_signed (mode_of flags) p ≡ true
-    → admission_of flags p false ≡ admission.Fit a e b f → ⊥
+    → admission_of flags p false ≡ Ok ((a, e), (b, f)) → ⊥
 unfolding vouched
 no_word flags p a e b f there h =
     let z : (allows_unsigned flags && not (is_signed (mode_of flags) p)) ≡ true = fit-vouched flags p false a e b f h in
     either (allows_unsigned flags) (λ t. clash (let y = rw (t, there) at z in cc)) (λ t. clash (let y = rw t at z in cc))
 
 limits-never : (mode : Mode) (p : List ℕ) (a e b f : ℕ)
-    → on_limits mode p (admission.Fit a e b f) ≡ admission.Unfit SignatureInvalid → ⊥
+    → on_limits {A = Parts} mode p (Ok ((a, e), (b, f))) ≡ Err SignatureInvalid → ⊥
 unfolding on_limits
 limits-never mode p a e b f h =
     either (eqb (length (topics_of mode p)) 0) (λ t. clash (let k = simp t at h in cc))
@@ -267,8 +260,8 @@ limits-never mode p a e b f h =
     (λ w. clash (let k = simp (t, u, v, w) at h in cc)))
     (λ v. clash (let k = simp (t, u, v) at h in cc))))
 
-key-never : (p s : List ℕ) (q : Place) (r : Admission) → (r ≡ admission.Unfit SignatureInvalid → ⊥)
-    → on_key p s q r ≡ admission.Unfit SignatureInvalid → ⊥
+key-never : (p s : List ℕ) (q : Place) (r : Result Parts Unfit) → (r ≡ Err SignatureInvalid → ⊥)
+    → on_key p s q r ≡ Err SignatureInvalid → ⊥
 key-never p s place.Absent r n h = either (key_inside s) (λ t. n (simp t at h)) (λ t. clash (let z = simp t at h in cc))
 key-never p s (place.Present x y) r n h =
     either (is_key (between p x y))
@@ -276,26 +269,26 @@ key-never p s (place.Present x y) r n h =
     (λ u. clash (let z = simp (t, u) at h in cc)))
     (λ t. clash (let z = simp t at h in cc))
 
-signature-never : (u : Bool) (s k : Place) (r l : Admission) → (r ≡ admission.Unfit SignatureInvalid → ⊥)
-    → (l ≡ admission.Unfit SignatureInvalid → ⊥) → on_signature u s k r l ≡ admission.Unfit SignatureInvalid → ⊥
+signature-never : (u : Bool) (s k : Place) (r l : Result Parts Unfit) → (r ≡ Err SignatureInvalid → ⊥)
+    → (l ≡ Err SignatureInvalid → ⊥) → on_signature u s k r l ≡ Err SignatureInvalid → ⊥
 signature-never u place.Absent place.Absent r l n m h =
     either u (λ t. m (simp t at h)) (λ t. clash (let z = simp t at h in cc))
 signature-never u place.Absent (place.Present x y) r l n m h = clash (cc)
 signature-never u (place.Present x y) k r l n m h =
     either (eqb (y - x) 64) (λ t. n (simp t at h)) (λ t. clash (let z = simp t at h in cc))
 
-peer-never : (s : List ℕ) (r : Admission) → (r ≡ admission.Unfit SignatureInvalid → ⊥)
-    → on_peer s r ≡ admission.Unfit SignatureInvalid → ⊥
+peer-never : (s : List ℕ) (r : Result Parts Unfit) → (r ≡ Err SignatureInvalid → ⊥)
+    → on_peer s r ≡ Err SignatureInvalid → ⊥
 peer-never s r n h = either (is_peer_id s) (λ t. n (simp t at h)) (λ t. clash (let z = simp t at h in cc))
 
-id-never : (flags : ℕ) (p : List ℕ) (i : MessageId) → on_id flags p true i ≡ admission.Unfit SignatureInvalid → ⊥
-id-never flags p id.MissingFrom h = clash (cc)
-id-never flags p (id.InvalidFrom n) h = clash (cc)
-id-never flags p id.InvalidSeqno h =
-    peer-never (sender_of (mode_of flags) p) (admission.Unfit InvalidSeqno) (λ z. clash (cc)) h
-id-never flags p (id.Parts a e b f) h =
+id-never : (flags : ℕ) (p : List ℕ) (i : Result Parts IdError) → on_id flags p true i ≡ Err SignatureInvalid → ⊥
+id-never flags p (Err noid.MissingFrom) h = clash (cc)
+id-never flags p (Err (noid.InvalidFrom n)) h = clash (cc)
+id-never flags p (Err noid.InvalidSeqno) h =
+    peer-never (sender_of (mode_of flags) p) (Err InvalidSeqno) (λ z. clash (cc)) h
+id-never flags p (Ok ((a, e), (b, f))) h =
     let q = (slots_of (mode_of flags) kind.RawMessage p).fifth in
-    let r = on_limits (mode_of flags) p (admission.Fit a e b f) in
+    let r = on_limits (mode_of flags) p (Ok ((a, e), (b, f))) in
     peer-never (sender_of (mode_of flags) p)
     (on_signature (allows_unsigned flags) (slots_of (mode_of flags) kind.RawMessage p).fourth q
     (on_key p (sender_of (mode_of flags) p) q r) r)
@@ -305,28 +298,28 @@ id-never flags p (id.Parts a e b f) h =
     (limits-never (mode_of flags) p a e b f)) h
 
 -- and with it 27 is never the answer
-pub word-only : (flags : ℕ) (p : List ℕ) (why : Unfit) → admission_of flags p true ≡ admission.Unfit why
+pub word-only : (flags : ℕ) (p : List ℕ) (why : Unfit) → admission_of flags p true ≡ Err why
     → why ≡ SignatureInvalid → ⊥
 unfolding admission_of
-word-only flags p why h e = id-never flags p (id_parts (mode_of flags) p) (h ∙ ap admission.Unfit e)
+word-only flags p why h e = id-never flags p (id_parts (mode_of flags) p) (h ∙ ap Err e)
 
 -- ---- which id a message gives
 pub gives-refused : (flags : ℕ) (p i : List ℕ) (why : WireError)
-    → counted (mode_of flags) kind.RawMessage p ≡ count.Refused why
+    → counted (mode_of flags) kind.RawMessage p ≡ Err why
     → false ≡ gives_id flags p i
 unfolding gives_id
 gives-refused flags p i why h = ap (λ c. where_read c (id_given p i (admission_of flags p true))) (sym h)
 
 pub gives-fit : (flags : ℕ) (p i : List ℕ) (n a e b f : ℕ) (r : Bool)
-    → counted (mode_of flags) kind.RawMessage p ≡ count.Records n
-    → admission_of flags p true ≡ admission.Fit a e b f → r ≡ same_bytes (id_bytes p a e b f) i → r ≡ gives_id flags p i
+    → counted (mode_of flags) kind.RawMessage p ≡ Ok n
+    → admission_of flags p true ≡ Ok ((a, e), (b, f)) → r ≡ same_bytes (id_bytes p a e b f) i → r ≡ gives_id flags p i
 unfolding gives_id
 gives-fit flags p i n a e b f r h k g = g ∙ ap (id_given p i) (sym k)
     ∙ ap (λ c. where_read c (id_given p i (admission_of flags p true))) (sym h)
 
 -- its own
-pub gives-own : (flags : ℕ) (p : List ℕ) (n a e b f : ℕ) → counted (mode_of flags) kind.RawMessage p ≡ count.Records n
-    → admission_of flags p true ≡ admission.Fit a e b f → gives_id flags p (id_bytes p a e b f) ≡ true
+pub gives-own : (flags : ℕ) (p : List ℕ) (n a e b f : ℕ) → counted (mode_of flags) kind.RawMessage p ≡ Ok n
+    → admission_of flags p true ≡ Ok ((a, e), (b, f)) → gives_id flags p (id_bytes p a e b f) ≡ true
 gives-own flags p n a e b f h k =
     sym (gives-fit flags p (id_bytes p a e b f) n a e b f true h k (sym (same_self (id_bytes p a e b f))))
 
@@ -337,14 +330,14 @@ pub record Gives (flags : ℕ) (p i : List ℕ) : Type 0 where
   pub from_end : ℕ
   pub seqno-start : ℕ
   pub seqno-end : ℕ
-  pub read : counted (mode_of flags) kind.RawMessage p ≡ count.Records records
-  pub taken : admission_of flags p true ≡ admission.Fit from_start from_end seqno-start seqno-end
+  pub read : counted (mode_of flags) kind.RawMessage p ≡ Ok records
+  pub taken : admission_of flags p true ≡ Ok ((from_start, from_end), (seqno-start, seqno-end))
   pub named : i ≡ id_bytes p from_start from_end seqno-start seqno-end
 
-of-fit : (flags : ℕ) (p i : List ℕ) (n : ℕ) (r : Admission) → counted (mode_of flags) kind.RawMessage p ≡ count.Records n
+of-fit : (flags : ℕ) (p i : List ℕ) (n : ℕ) (r : Result Parts Unfit) → counted (mode_of flags) kind.RawMessage p ≡ Ok n
     → admission_of flags p true ≡ r → id_given p i r ≡ true → Gives flags p i
-of-fit flags p i n (admission.Unfit why) h k g = clash (cc)
-of-fit flags p i n (admission.Fit a e b f) h k g =
+of-fit flags p i n (Err why) h k g = clash (cc)
+of-fit flags p i n (Ok ((a, e), (b, f))) h k g =
     record {
       records = n;
       from_start = a;
@@ -356,10 +349,10 @@ of-fit flags p i n (admission.Fit a e b f) h k g =
       named = sym (same_equal (id_bytes p a e b f) i g);
     }
 
-of-read : (flags : ℕ) (p i : List ℕ) (c : Counted) → counted (mode_of flags) kind.RawMessage p ≡ c
+of-read : (flags : ℕ) (p i : List ℕ) (c : Result ℕ WireError) → counted (mode_of flags) kind.RawMessage p ≡ c
     → where_read c (id_given p i (admission_of flags p true)) ≡ true → Gives flags p i
-of-read flags p i (count.Refused why) h g = clash (cc)
-of-read flags p i (count.Records n) h g = of-fit flags p i n (admission_of flags p true) h refl g
+of-read flags p i (Err why) h g = clash (cc)
+of-read flags p i (Ok n) h g = of-fit flags p i n (admission_of flags p true) h refl g
 
 pub gives-only : (flags : ℕ) (p i : List ℕ) → gives_id flags p i ≡ true → Gives flags p i
 unfolding gives_id
@@ -377,13 +370,8 @@ pub one-id : (flags : ℕ) (m i j : List ℕ) → gives_id flags m i ≡ true �
 one-id flags m i j g h =
     let a = gives-only flags m i g in
     let b = gives-only flags m j h in
-    let e : admission.Fit a.from_start a.from_end a.seqno-start a.seqno-end ≡ admission.Fit b.from_start
-    b.from_end b.seqno-start b.seqno-end = sym a.taken ∙ b.taken in
-    let p : a.from_start ≡ b.from_start = cc in
-    let q : a.from_end ≡ b.from_end = cc in
-    let r : a.seqno-start ≡ b.seqno-start = cc in
-    let s : a.seqno-end ≡ b.seqno-end = cc in
-    a.named ∙ rw (p, q, r, s) (sym b.named)
+    a.named ∙ ap (λ (w : (ℕ × ℕ) × (ℕ × ℕ)). id_bytes m w.0.0 w.0.1 w.1.0 w.1.1) (of-ok (sym a.taken ∙ b.taken))
+    ∙ sym b.named
 
 -- ---- a message of an accepted body is well formed
 message_role : (d : Dialect) (f : Field) → is_bytes 2 f ≡ true
@@ -397,13 +385,13 @@ message_role d f h =
     (λ t. clash (let k = simp t at h in cc))
 
 read-along : (d : Dialect) (s : List ℕ) (i a e at n m : ℕ)
-    → count_along (counted d.mode) (kind.Rpc d.edition) s (walk_at d.mode s at) ≡ count.Records m
-    → message_along i n (walk_at d.mode s at) ≡ At a e → (x : ℕ)
-    × (counted d.mode kind.RawMessage (between s a e) ≡ count.Records x)
+    → count_along (counted d.mode) (kind.Rpc d.edition) s (walk_at d.mode s at) ≡ Ok m
+    → message_along i n (walk_at d.mode s at) ≡ Ok (a, e) → (x : ℕ)
+    × (counted d.mode kind.RawMessage (between s a e) ≡ Ok x)
 read-along d s i a e =
     along d.mode s (λ (at : ℕ) (w : Fields). (n m : ℕ)
-    → count_along (counted d.mode) (kind.Rpc d.edition) s w ≡ count.Records m
-    → message_along i n w ≡ At a e → (x : ℕ) × (counted d.mode kind.RawMessage (between s a e) ≡ count.Records x))
+    → count_along (counted d.mode) (kind.Rpc d.edition) s w ≡ Ok m
+    → message_along i n w ≡ Ok (a, e) → (x : ℕ) × (counted d.mode kind.RawMessage (between s a e) ≡ Ok x))
     (λ at n m g h. clash (cc))
     (λ at why r n m g h. clash (cc))
     (λ at f st r rest n m g h.
@@ -411,17 +399,16 @@ read-along d s i a e =
     (count_along (counted d.mode) (kind.Rpc d.edition) s (walk_at d.mode s f.next)) m g in
     either (is_bytes 2 f)
     (λ u. either (eqb n i)
-    (λ v. let k = simp (u, v) at h in
-    let pa : f.start ≡ a = cc in let pe : f.next ≡ e = cc in
+    (λ v. let k = of-ok-two (simp (u, v) at h) in
     let y = plus-fits (own_of kind.RawMessage) t.0
     (counted d.mode kind.RawMessage (between s f.start f.next))
     (sym (ap (role_count (counted d.mode) s f) (message_role d f u)) ∙ t.2) in
-    (y.0, ap (counted d.mode kind.RawMessage) (ap₂ (between s) (sym pa) (sym pe)) ∙ y.1))
+    (y.0, ap (counted d.mode kind.RawMessage) (ap₂ (between s) (sym k.0) (sym k.1)) ∙ y.1))
     (λ v. rest (n + 1) t.1 t.3 (simp (u, v) at h)))
     (λ u. rest n t.1 t.3 (simp u at h)))
 
-pub message-read : (d : Dialect) (s : List ℕ) (i a e : ℕ) → accept_of d s ≡ Fine → message_at d.mode s i ≡ At a e
-    → (n : ℕ) × (counted d.mode kind.RawMessage (between s a e) ≡ count.Records n)
+pub message-read : (d : Dialect) (s : List ℕ) (i a e : ℕ) → accept_of d s ≡ Ok tt → message_at d.mode s i ≡ Ok (a, e)
+    → (n : ℕ) × (counted d.mode kind.RawMessage (between s a e) ≡ Ok n)
 unfolding message_at
 message-read d s i a e h k = let c = accept_records d s h in
     read-along d s i a e 0 0 c.0 (sym (count_along_lem d.mode (kind.Rpc d.edition) s) ∙ c.1) k

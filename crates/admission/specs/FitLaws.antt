@@ -1,10 +1,9 @@
 -- A message is taken exactly where it is fit.
-use Rattle.std.specs.Prelude.{ℕ, ◌-◌, ◌^◌, ◌≤◌, ◌<◌, ◌≡◌, Bool, false, ◌↔◌, drop}
+use Rattle.std.specs.Prelude.{Option, Result, Ok, Err, Some, None, ℕ, ◌-◌, ◌^◌, ◌≤◌, ◌<◌, ◌≡◌, Bool, false, ◌↔◌, drop}
 use Rattle.std.proofs.Math.Path.{refl, ap, subst}
 use Rattle.std.proofs.Common.{sym, ap₂, ◌∙◌, arith, length-take, length-drop, eq-eqb, ne_eqb, le-ltb}
 use Rattle.std.proofs.Math.Bool.{true}
 use mathlib.Core.List.{List}
-use Rattle.std.proofs.Math.Option.{Option, none, some}
 use Rattle.std.proofs.Math.ListN.{length}
 use Rattle.basis.specs.declared.Mode.{Mode}
 use Rattle.basis.specs.Dialect.{mode_of}
@@ -12,13 +11,10 @@ use Rattle.basis.specs.Cases.{clash, both}
 use Rattle.basis.specs.Bytes.{Bytes}
 use Rattle.basis.specs.Lists.{drop-bytes, take-bytes}
 use Rattle.peer_id.specs.declared.PeerId.{PeerId}
-use Rattle.peer_id.specs.declared.PeerId.TheVariants as peer
 use Rattle.peer_id.specs.PeerId.{from_bytes, digest_of}
 use Rattle.peer_id.specs.Multihash.{Hash, identity, sha_256, IsPeerId}
 use Rattle.peer_id.specs.MultihashLaws.{peer-exactly}
 use Rattle.key.specs.declared.KeyType.{KeyType}
-use Rattle.key.specs.declared.PublicKey.{PublicKey}
-use Rattle.key.specs.declared.PublicKey.TheVariants as key
 use Rattle.key.specs.Key.{IsKey}
 use Rattle.key.specs.Decode.{decode_protobuf}
 use Rattle.key.specs.KeyLaws.{key-exactly}
@@ -29,9 +25,11 @@ use Rattle.schema.specs.declared.Kind.TheVariants as kind
 use Rattle.schema.specs.declared.Place.{Place}
 use Rattle.schema.specs.declared.Place.TheVariants as place
 use Rattle.schema.specs.Slots.{slots_of}
-use Rattle.admission.specs.declared.Admission.{Admission}
-use Rattle.admission.specs.declared.Admission.TheVariants as admission
-use Rattle.admission.specs.Admission.{topics_of, first_long, on_limits, on_word, is_read, is_key, by_hash, key_matches}
+use Rattle.key.specs.declared.PublicKey.{PublicKey}
+use Rattle.key.specs.declared.PublicKeyError.{PublicKeyError}
+use Rattle.peer_id.specs.declared.PeerId.TheVariants as who
+use Rattle.admission.specs.declared.Unfit.{Unfit}
+use Rattle.admission.specs.Admission.{Parts, topics_of, first_long, on_limits, on_word, is_read, is_key, by_hash, key_matches}
 use Rattle.admission.specs.Admission.{key_inside, on_key, on_signature, is_peer_id, on_peer, sender_of, on_id}
 use Rattle.admission.specs.Admission.{admission_of, is_there, is_signed}
 use Rattle.admission.specs.Flags.{allows_unsigned}
@@ -39,25 +37,25 @@ use Rattle.admission.specs.AdmissionLaws.{key_fits, Stood, fit_parts, sender-is,
 use Rattle.admission.specs.AdmissionLaws as stood
 use Rattle.admission.specs.Fit.{KeyOf, inside, same, hashed, given_at, Signed, Limits, Backed, IsFit}
 use Rattle.admission.specs.Fit as fit
-use Rattle.ids.specs.declared.MessageId.TheVariants as id
 use Rattle.ids.specs.Ids.{id_parts}
 
 -- ---- which peer id it is
-of-hash : (s : List ℕ) (r : PeerId) → from_bytes s ≡ r → by_hash r true true ≡ true → (h : Hash)
+of-hash : (s : List ℕ) (r : Option PeerId) → from_bytes s ≡ r → by_hash r true true ≡ true → (h : Hash)
     × IsPeerId s h (digest_of s)
-of-hash s peer.Identity e n = (identity, (peer-exactly s (digest_of s) identity).0 (e, refl))
-of-hash s peer.Sha256 e n = (sha_256, (peer-exactly s (digest_of s) sha_256).0 (e, refl))
-of-hash s peer.NotPeerId e n = clash (cc)
+of-hash s (Some who.Identity) e n = (identity, (peer-exactly s (digest_of s) identity).0 (e, refl))
+of-hash s (Some who.Sha256) e n = (sha_256, (peer-exactly s (digest_of s) sha_256).0 (e, refl))
+of-hash s None e n = clash (cc)
 
 peer-is : (s : List ℕ) → is_peer_id s ≡ true → (h : Hash) × IsPeerId s h (digest_of s)
 unfolding is_peer_id
 peer-is s h = of-hash s (from_bytes s) refl h
 
 -- ---- bytes are a key
-is_read_lem : (k : List ℕ) (r : PublicKey) → Bytes k → length k < 2 ^ 64 → decode_protobuf k ≡ r → is_read r ≡ true
-    → (t : KeyType) × (d : List ℕ) × IsKey k t d
-is_read_lem k (key.Key t a) b l e h = (t, drop a k, (key-exactly k t (drop a k) b l).0 (a, e, refl))
-is_read_lem k (key.Refused why) b l e h = clash (cc)
+is_read_lem : (k : List ℕ) (r : Result PublicKey PublicKeyError) → Bytes k → length k < 2 ^ 64 → decode_protobuf k ≡ r
+    → is_read r ≡ true → (t : KeyType) × (d : List ℕ) × IsKey k t d
+is_read_lem k (Ok key) b l e h =
+    let d = drop key.start k in (key.key_type, d, (key-exactly k key.key_type d b l).0 (key.start, e, refl))
+is_read_lem k (Err why) b l e h = clash (cc)
 
 pub key-read-exactly : (k : List ℕ) → Bytes k → length k < 2 ^ 64
     → (is_key k ≡ true) ↔ ((t : KeyType) × (d : List ℕ) × IsKey k t d)
@@ -78,22 +76,22 @@ module _ (p s : List ℕ) (bp : Bytes p) (bs : Bytes s) (lp : length p ≤ 4096)
   digest-small : length (digest_of s) < 2 ^ 64
   digest-small = rw (length-drop 2 s) (omega arith)
 
-  is-inside : (r : PeerId) → from_bytes s ≡ r → by_hash r (is_key (digest_of s)) false ≡ true → KeyOf s none
-  is-inside peer.Identity e h =
+  is-inside : (r : Option PeerId) → from_bytes s ≡ r → by_hash r (is_key (digest_of s)) false ≡ true → KeyOf s None
+  is-inside (Some who.Identity) e h =
       let k = (key-read-exactly (digest_of s) (drop-bytes 2 s bs) digest-small).0 h in
       inside ((peer-exactly s (digest_of s) identity).0 (e, refl)) k.2
-  is-inside peer.Sha256 e h = clash (cc)
-  is-inside peer.NotPeerId e h = clash (cc)
+  is-inside (Some who.Sha256) e h = clash (cc)
+  is-inside None e h = clash (cc)
 
-  is_there_lem : (a e : ℕ) (r : PeerId) → from_bytes s ≡ r → is_key (between p a e) ≡ true
-      → by_hash r (same_bytes (digest_of s) (between p a e)) true ≡ true → KeyOf s (some (between p a e))
-  is_there_lem a e peer.Identity f k h =
+  is_there_lem : (a e : ℕ) (r : Option PeerId) → from_bytes s ≡ r → is_key (between p a e) ≡ true
+      → by_hash r (same_bytes (digest_of s) (between p a e)) true ≡ true → KeyOf s (Some (between p a e))
+  is_there_lem a e (Some who.Identity) f k h =
       let g = (key-read-exactly (between p a e) (part_bytes a e) (part_small a e)).0 k in
       same ((peer-exactly s (between p a e) identity).0 (f, same_equal (digest_of s) (between p a e) h)) g.2
-  is_there_lem a e peer.Sha256 f k h =
+  is_there_lem a e (Some who.Sha256) f k h =
       let g = (key-read-exactly (between p a e) (part_bytes a e) (part_small a e)).0 k in
       hashed ((peer-exactly s (digest_of s) sha_256).0 (f, refl)) g.2
-  is_there_lem a e peer.NotPeerId f k h = clash (cc)
+  is_there_lem a e None f k h = clash (cc)
 
   clause : (q : Place) → key_fits p s q ≡ true → KeyOf s (given_at p q)
   unfolding key_inside key_matches
@@ -102,7 +100,7 @@ module _ (p s : List ℕ) (bp : Bytes p) (bs : Bytes s) (lp : length p ≤ 4096)
       let b = both (is_key (between p a e)) (key_matches s (between p a e)) h in
       is_there_lem a e (from_bytes s) refl b.0 b.1
 
-  fits-inside : {o : Option (List ℕ)} → KeyOf s o → o ≡ none → key_inside s ≡ true
+  fits-inside : {o : Option (List ℕ)} → KeyOf s o → o ≡ None → key_inside s ≡ true
   unfolding key_inside
   fits-inside (inside {d} {k} {t} i x) z =
       let r = (peer-exactly s d identity).1 i in
@@ -112,7 +110,7 @@ module _ (p s : List ℕ) (bp : Bytes p) (bs : Bytes s) (lp : length p ≤ 4096)
   fits-inside (same {d} {k} {t} i x) z = clash (cc)
   fits-inside (hashed {c} {d} {k} {t} i x) z = clash (cc)
 
-  fits-there : {o : Option (List ℕ)} (c : List ℕ) → KeyOf s o → o ≡ some c → Bytes c → length c < 2 ^ 64
+  fits-there : {o : Option (List ℕ)} (c : List ℕ) → KeyOf s o → o ≡ Some c → Bytes c → length c < 2 ^ 64
       → (is_key c ≡ true) × (key_matches s c ≡ true)
   unfolding key_matches
   fits-there c (inside {d} {k} {t} i x) z bc lc = clash (cc)
@@ -133,7 +131,7 @@ module _ (p s : List ℕ) (bp : Bytes p) (bs : Bytes s) (lp : length p ≤ 4096)
       let y = fits-there (between p a e) k refl (part_bytes a e) (part_small a e) in rw (y.0, y.1)
 
 -- ---- what passes each test is handed on
-to-limits : (mode : Mode) (p : List ℕ) (r : Admission) → Limits mode p → on_limits mode p r ≡ r
+to-limits : (mode : Mode) (p : List ℕ) (r : Result Parts Unfit) → Limits mode p → on_limits mode p r ≡ r
 unfolding on_limits
 to-limits mode p r l =
     let m = l.some in
@@ -144,20 +142,20 @@ to-limits mode p r l =
       le-ltb 4096 (length p) l.small,
     )
 
-to_word : (word : Bool) (r : Admission) → word ≡ true → on_word word r ≡ r
+to_word : (word : Bool) (r : Result Parts Unfit) → word ≡ true → on_word word r ≡ r
 to_word true r h = refl
 to_word false r h = clash (cc)
 
-to-key : (p s : List ℕ) (q : Place) (r : Admission) → key_fits p s q ≡ true → on_key p s q r ≡ r
+to-key : (p s : List ℕ) (q : Place) (r : Result Parts Unfit) → key_fits p s q ≡ true → on_key p s q r ≡ r
 to-key p s place.Absent r h = rw h
 to-key p s (place.Present a e) r h =
     let b = both (is_key (between p a e)) (key_matches s (between p a e)) h in rw (b.0, b.1)
 
-to-signature : (u : Bool) (s k : Place) (r l : Admission) → Signed s → on_signature u s k r l ≡ r
+to-signature : (u : Bool) (s k : Place) (r l : Result Parts Unfit) → Signed s → on_signature u s k r l ≡ r
 to-signature u s k r l g =
     ap (λ (q : Place). on_signature u q k r l) g.there ∙ simp (eq-eqb (g.next - g.start) 64 g.size)
 
-to-peer : (s : List ℕ) (h : Hash) (d : List ℕ) (r : Admission) → IsPeerId s h d → on_peer s r ≡ r
+to-peer : (s : List ℕ) (h : Hash) (d : List ℕ) (r : Result Parts Unfit) → IsPeerId s h d → on_peer s r ≡ r
 unfolding is_peer_id
 to-peer s identity d r i = rw ((peer-exactly s d identity).1 i).0
 to-peer s sha_256 d r i = rw ((peer-exactly s d sha_256).1 i).0
@@ -186,7 +184,7 @@ module _ (flags : ℕ) (p : List ℕ) (word : Bool) (a e b f : ℕ) (bp : Bytes 
       (ap (key_fits p (between p a e)) f5 ∙ sym (ap (λ (l : List ℕ). key_fits p l k) s) ∙ key)) w
   is-backed (stood.bare t) f4 f5 s small = fit.unsigned t f4 f5
 
-  is-fit : admission_of flags p word ≡ admission.Fit a e b f → IsFit flags p word a e b f
+  is-fit : admission_of flags p word ≡ Ok ((a, e), (b, f)) → IsFit flags p word a e b f
   is-fit h =
       let i = fit_parts flags p word a e b f h in
       let g = fit-passes flags p word a e b f h in
@@ -201,7 +199,7 @@ module _ (flags : ℕ) (p : List ℕ) (word : Bool) (a e b f : ℕ) (bp : Bytes 
         limits = g.limits;
       }
 
-  backed_on : {s : List ℕ} (l : Admission) → Backed flags p word s → s ≡ between p a e → sender_of (mode_of flags) p ≡ s
+  backed_on : {s : List ℕ} (l : Result Parts Unfit) → Backed flags p word s → s ≡ between p a e → sender_of (mode_of flags) p ≡ s
       → length p ≤ 4096
       → on_signature (allows_unsigned flags) fourth fifth (on_key p (sender_of (mode_of flags) p) fifth (on_word word l)) l
       ≡ l
@@ -216,11 +214,11 @@ module _ (flags : ℕ) (p : List ℕ) (word : Bool) (a e b f : ℕ) (bp : Bytes 
       ap₂ (λ (q k : Place). on_signature (allows_unsigned flags) q k
       (on_key p (sender_of (mode_of flags) p) k (on_word word l)) l) f4 f5 ∙ rw t
 
-  is-taken : IsFit flags p word a e b f → admission_of flags p word ≡ admission.Fit a e b f
+  is-taken : IsFit flags p word a e b f → admission_of flags p word ≡ Ok ((a, e), (b, f))
   unfolding admission_of
   is-taken x =
       let s : sender_of (mode_of flags) p ≡ between p a e = sender-is (mode_of flags) p a e b f x.parts in
-      let fit = admission.Fit a e b f in
+      let fit = Ok ((a, e), (b, f)) in
       ap (on_id flags p word) x.parts
       ∙ to-peer (sender_of (mode_of flags) p) x.hash x.digest _
       (subst (λ (l : List ℕ). IsPeerId l x.hash x.digest) (sym s) x.peer)
@@ -228,7 +226,7 @@ module _ (flags : ℕ) (p : List ℕ) (word : Bool) (a e b f : ℕ) (bp : Bytes 
       ∙ to-limits (mode_of flags) p fit x.limits
 
   -- a message is taken, with from and seqno in these places, exactly where it is fit
-  pub fit-exactly : (admission_of flags p word ≡ admission.Fit a e b f) ↔ IsFit flags p word a e b f
+  pub fit-exactly : (admission_of flags p word ≡ Ok ((a, e), (b, f))) ↔ IsFit flags p word a e b f
   fit-exactly = (is-fit, is-taken)
 
   -- one without a signature exactly where that is allowed, there is no key, the sender is a peer id, it has an id and
@@ -236,7 +234,7 @@ module _ (flags : ℕ) (p : List ℕ) (word : Bool) (a e b f : ℕ) (bp : Bytes 
   pub record FitUnsigned : Type 0 where
     pub allowed : allows_unsigned flags ≡ true
     pub no_key : (slots_of (mode_of flags) kind.RawMessage p).fifth ≡ place.Absent
-    pub parts : id_parts (mode_of flags) p ≡ id.Parts a e b f
+    pub parts : id_parts (mode_of flags) p ≡ Ok ((a, e), (b, f))
     pub hash : Hash
     pub digest : List ℕ
     pub peer : IsPeerId (between p a e) hash digest
@@ -252,7 +250,7 @@ module _ (flags : ℕ) (p : List ℕ) (word : Bool) (a e b f : ℕ) (bp : Bytes 
   not_there (place.Present x y) h = clash (cc)
 
   pub unsigned-exactly : is_signed (mode_of flags) p ≡ false
-      → (admission_of flags p word ≡ admission.Fit a e b f) ↔ FitUnsigned
+      → (admission_of flags p word ≡ Ok ((a, e), (b, f))) ↔ FitUnsigned
   unfolding is_signed
   unsigned-exactly n = (
     λ h.

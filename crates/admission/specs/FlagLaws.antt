@@ -1,7 +1,7 @@
 -- What the flag that allows unsigned messages changes: with it off, nothing of what admission was before there were
 -- flags; with a signature, nothing; and what is taken with it off is taken with it on. What the flag that skips groups
 -- changes: nothing of a message that the first mode reads.
-use Rattle.std.specs.Prelude.{ℕ, ◌-◌, ◌≡◌, refl, Bool, false, cond, ◌&&◌, List, eqb}
+use Rattle.std.specs.Prelude.{Result, Ok, Err, ℕ, ◌-◌, ◌≡◌, refl, Bool, false, cond, ◌&&◌, List, eqb}
 use Rattle.std.proofs.Common.{sym, ◌∙◌}
 use Rattle.std.proofs.Math.Path.{ap}
 use Rattle.std.proofs.Math.Bool.{true}
@@ -12,22 +12,20 @@ use Rattle.basis.specs.Cases.{either, clash, both}
 use Rattle.schema.specs.declared.Kind.TheVariants as kind
 use Rattle.schema.specs.declared.Place.{Place}
 use Rattle.schema.specs.declared.Place.TheVariants as place
-use Rattle.schema.specs.declared.Counted.{Counted}
-use Rattle.schema.specs.declared.Counted.TheVariants as count
 use Rattle.schema.specs.Count.{counted}
 use Rattle.schema.specs.Slots.{slots_of}
 use Rattle.schema.specs.Modes.{same-fields, same_slots, same-counted}
-use Rattle.ids.specs.declared.MessageId.{MessageId}
-use Rattle.ids.specs.declared.MessageId.TheVariants as id
 use Rattle.ids.specs.Ids.{id_parts}
 use Rattle.ids.specs.Modes.{same_parts}
 use Rattle.admission.specs.declared.Unfit.TheVariants.{MissingFrom, InvalidFrom, InvalidSeqno}
 use Rattle.admission.specs.declared.Unfit.TheVariants.{KeyWithoutSignature, MissingSignature}
 use Rattle.admission.specs.declared.Unfit.TheVariants.{InvalidSignatureLength}
-use Rattle.admission.specs.declared.Admission.{Admission}
-use Rattle.admission.specs.declared.Admission.TheVariants as admission
+use Rattle.ids.specs.declared.IdError.TheVariants as noid
+use Rattle.ids.specs.declared.IdError.{IdError}
+use Rattle.protobuf.specs.declared.WireError.{WireError}
+use Rattle.admission.specs.declared.Unfit.{Unfit}
 use Rattle.admission.specs.Flags.{allows_unsigned}
-use Rattle.admission.specs.Admission.{topics_along, topics_of, Span, places_along, topic_places, same_spans, on_limits, on_word, on_key, on_signature, on_peer}
+use Rattle.admission.specs.Admission.{Parts, topics_along, topics_of, Span, places_along, topic_places, same_spans, on_limits, on_word, on_key, on_signature, on_peer}
 use Rattle.admission.specs.Admission.{sender_of, on_id, admission_of, is_there, is_signed, id_given, where_read, gives_id}
 use Rattle.admission.specs.Admission.{kept_with}
 use Rattle.admission.specs.AdmissionLaws.{gives-refused, gives-signed}
@@ -46,22 +44,22 @@ unfolding allows_unsigned
 known-allowed = (refl, refl, refl, refl)
 
 -- ---- admission as it was, in a mode: every message has a signature
-abbrev pub signature_was : Place → Place → Admission → Admission
-signature_was place.Absent place.Absent r = admission.Unfit MissingSignature
-signature_was place.Absent (place.Present a e) r = admission.Unfit KeyWithoutSignature
-signature_was (place.Present a e) key r = cond (eqb (e - a) 64) r (admission.Unfit (InvalidSignatureLength (e - a)))
+abbrev pub signature_was : Place → Place → Result Parts Unfit → Result Parts Unfit
+signature_was place.Absent place.Absent r = Err MissingSignature
+signature_was place.Absent (place.Present a e) r = Err KeyWithoutSignature
+signature_was (place.Present a e) key r = cond (eqb (e - a) 64) r (Err (InvalidSignatureLength (e - a)))
 
-abbrev pub id_was : Mode → List ℕ → Bool → MessageId → Admission
-id_was mode p word id.MissingFrom = admission.Unfit MissingFrom
-id_was mode p word (id.InvalidFrom n) = admission.Unfit (InvalidFrom n)
-id_was mode p word id.InvalidSeqno = on_peer (sender_of mode p) (admission.Unfit InvalidSeqno)
-id_was mode p word (id.Parts a e b f) =
+abbrev pub id_was : Mode → List ℕ → Bool → Result Parts IdError → Result Parts Unfit
+id_was mode p word (Err noid.MissingFrom) = Err MissingFrom
+id_was mode p word (Err (noid.InvalidFrom n)) = Err (InvalidFrom n)
+id_was mode p word (Err noid.InvalidSeqno) = on_peer (sender_of mode p) (Err InvalidSeqno)
+id_was mode p word (Ok ((a, e), (b, f))) =
     on_peer (sender_of mode p)
     (signature_was (slots_of mode kind.RawMessage p).fourth (slots_of mode kind.RawMessage p).fifth
     (on_key p (sender_of mode p) (slots_of mode kind.RawMessage p).fifth
-    (on_word word (on_limits mode p (admission.Fit a e b f)))))
+    (on_word word (on_limits mode p (Ok ((a, e), (b, f)))))))
 
-unfoldable pub admission_was : Mode → List ℕ → Bool → Admission
+unfoldable pub admission_was : Mode → List ℕ → Bool → Result Parts Unfit
 admission_was mode p word = id_was mode p word (id_parts mode p)
 
 unfoldable pub gives_was : Mode → List ℕ → List ℕ → Bool
@@ -71,25 +69,25 @@ unfoldable pub kept_was : Mode → List ℕ → List ℕ → List Span → Bool
 kept_was mode p i ts = gives_was mode p i && same_spans (topic_places mode p) ts
 
 -- ---- with a signature, or with the flag off, it is that
-signature-same : (u : Bool) (q k : Place) (r l : Admission) → (is_there q ≡ true)
+signature-same : (u : Bool) (q k : Place) (r l : Result Parts Unfit) → (is_there q ≡ true)
     → on_signature u q k r l ≡ signature_was q k r
 signature-same u place.Absent k r l h = clash (cc)
 signature-same u (place.Present a e) k r l h = refl
 
-signature_off : (u : Bool) (q k : Place) (r l : Admission) → u ≡ false → on_signature u q k r l ≡ signature_was q k r
+signature_off : (u : Bool) (q k : Place) (r l : Result Parts Unfit) → u ≡ false → on_signature u q k r l ≡ signature_was q k r
 signature_off u place.Absent place.Absent r l h = rw h
 signature_off u place.Absent (place.Present a e) r l h = refl
 signature_off u (place.Present a e) k r l h = refl
 
 module _ (flags : ℕ) (p : List ℕ) (word : Bool) where
-  id_was_lem : (i : MessageId) → ((k : Place) (r l : Admission)
+  id_was_lem : (i : Result Parts IdError) → ((k : Place) (r l : Result Parts Unfit)
       → on_signature (allows_unsigned flags) (slots_of (mode_of flags) kind.RawMessage p).fourth k r l
       ≡ signature_was (slots_of (mode_of flags) kind.RawMessage p).fourth k r)
       → on_id flags p word i ≡ id_was (mode_of flags) p word i
-  id_was_lem id.MissingFrom h = refl
-  id_was_lem (id.InvalidFrom n) h = refl
-  id_was_lem id.InvalidSeqno h = refl
-  id_was_lem (id.Parts a e b f) h = ap (on_peer (sender_of (mode_of flags) p))
+  id_was_lem (Err noid.MissingFrom) h = refl
+  id_was_lem (Err (noid.InvalidFrom n)) h = refl
+  id_was_lem (Err noid.InvalidSeqno) h = refl
+  id_was_lem (Ok ((a, e), (b, f))) h = ap (on_peer (sender_of (mode_of flags) p))
       (h (slots_of (mode_of flags) kind.RawMessage p).fifth _ _)
 
   pub admission_off : allows_unsigned flags ≡ false → admission_of flags p word ≡ admission_was (mode_of flags) p word
@@ -142,21 +140,21 @@ gives-not flags p i h n =
 -- ---- the mode: what the first mode reads and would take, the second takes as well, where the other flag is the same
 module _ (flags other : ℕ) (plain : mode_of flags ≡ Plain) (groups : mode_of other ≡ Groups)
     (same : allows_unsigned other ≡ allows_unsigned flags) (p : List ℕ) (n : ℕ)
-    (read : counted Plain kind.RawMessage p ≡ count.Records n) where
+    (read : counted Plain kind.RawMessage p ≡ Ok n) where
   topics_mode : topics_of Groups p ≡ topics_of Plain p
   unfolding topics_of
   topics_mode = ap (topics_along p) (same-fields kind.RawMessage p n read)
 
-  limits_mode : (r : Admission) → on_limits Groups p r ≡ on_limits Plain p r
+  limits_mode : (r : Result Parts Unfit) → on_limits Groups p r ≡ on_limits Plain p r
   unfolding on_limits
   limits_mode r = rw topics_mode
 
-  id_mode : (word : Bool) (i : MessageId) → on_id other p word i ≡ on_id flags p word i
-  id_mode word id.MissingFrom = refl
-  id_mode word (id.InvalidFrom k) = refl
-  id_mode word id.InvalidSeqno = rw (plain, groups, same_slots kind.RawMessage p n read)
-  id_mode word (id.Parts a e b f) =
-      rw (plain, groups, same, same_slots kind.RawMessage p n read, limits_mode (admission.Fit a e b f))
+  id_mode : (word : Bool) (i : Result Parts IdError) → on_id other p word i ≡ on_id flags p word i
+  id_mode word (Err noid.MissingFrom) = refl
+  id_mode word (Err (noid.InvalidFrom k)) = refl
+  id_mode word (Err noid.InvalidSeqno) = rw (plain, groups, same_slots kind.RawMessage p n read)
+  id_mode word (Ok ((a, e), (b, f))) =
+      rw (plain, groups, same, same_slots kind.RawMessage p n read, limits_mode (Ok ((a, e), (b, f))))
 
   pub admission_mode : (word : Bool) → admission_of other p word ≡ admission_of flags p word
   unfolding admission_of
@@ -168,7 +166,7 @@ module _ (flags other : ℕ) (plain : mode_of flags ≡ Plain) (groups : mode_of
   unfolding topic_places
   places_mode = ap places_along (same-fields kind.RawMessage p n read)
 
-  counts_mode : counted Groups kind.RawMessage p ≡ count.Records n
+  counts_mode : counted Groups kind.RawMessage p ≡ Ok n
   counts_mode = same-counted kind.RawMessage p (λ why e. clash (let c = read in cc)) ∙ read
 
   kept_read : (i : List ℕ) (ts : List Span) → kept_with flags p i ts ≡ true → kept_with other p i ts ≡ true
@@ -183,10 +181,10 @@ kept_gives flags p i ts k = (both (gives_id flags p i) (same_spans (topic_places
 
 kept_by : (flags other : ℕ) → mode_of flags ≡ Plain → mode_of other ≡ Groups
     → allows_unsigned other ≡ allows_unsigned flags → (p i : List ℕ) (ts : List Span) → kept_with flags p i ts ≡ true
-    → (r : Counted) → counted Plain kind.RawMessage p ≡ r → kept_with other p i ts ≡ true
-kept_by flags other plain groups same p i ts k (count.Records n) e =
+    → (r : Result ℕ WireError) → counted Plain kind.RawMessage p ≡ r → kept_with other p i ts ≡ true
+kept_by flags other plain groups same p i ts k (Ok n) e =
     kept_read flags other plain groups same p n e i ts k
-kept_by flags other plain groups same p i ts k (count.Refused why) e = clash (let z = kept_gives flags p i ts k in
+kept_by flags other plain groups same p i ts k (Err why) e = clash (let z = kept_gives flags p i ts k in
     let w = gives-refused flags p i why (ap (λ (m : Mode). counted m kind.RawMessage p) plain ∙ e) in cc)
 
 -- so what is cached in the first mode may be taken in the second: a mode that is set from outside is not found out

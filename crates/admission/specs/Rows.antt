@@ -1,5 +1,5 @@
 -- Messages and what is answered: a sender, a sequence number 1, the topic t, and a signature of zeros.
-use Rattle.std.specs.Prelude.{ℕ, zero, suc, ◌≡◌, refl, true, false, List, [], ◌∷◌, ◌++◌, length, replicate}
+use Rattle.std.specs.Prelude.{Ok, Err, ℕ, zero, suc, ◌≡◌, refl, true, false, List, [], ◌∷◌, ◌++◌, length, replicate}
 use Rattle.basis.specs.declared.Mode.TheVariants.{Plain, Groups}
 use Rattle.basis.specs.Dialect.{mode_of}
 use Rattle.peer_id.specs.Uvarint.{read_uvarint, read_from, group_of}
@@ -18,7 +18,6 @@ use Rattle.admission.specs.declared.Unfit.TheVariants.{MissingFrom, InvalidFrom,
 use Rattle.admission.specs.declared.Unfit.TheVariants.{KeyWithoutSignature, MissingSignature}
 use Rattle.admission.specs.declared.Unfit.TheVariants.{InvalidSignatureLength, SignatureInvalid, TopicCount}
 use Rattle.admission.specs.declared.Unfit.TheVariants.{NotPeerId, InvalidKey, KeyPeerIdMismatch}
-use Rattle.admission.specs.declared.Admission.TheVariants.{Unfit, Fit}
 use Rattle.admission.specs.Admission.{topics_of, Span, topic_places, same_spans, first_long, on_limits, admission_of}
 use Rattle.admission.specs.Flags.{allows_unsigned}
 use Rattle.admission.specs.Admission.{is_key, key_matches, key_inside, is_peer_id, gives_id, kept_with}
@@ -64,8 +63,8 @@ of s = from s ++ (seqno ++ (topic ++ signature))
 
 -- it is taken where the host says that the signature verified; else 27
 pub taken :
-    (admission_of 0 (head ++ signature) true ≡ Fit 2 40 42 43)
-    × (admission_of 0 (head ++ signature) false ≡ Unfit SignatureInvalid)
+    (admission_of 0 (head ++ signature) true ≡ Ok ((2, 40), (42, 43)))
+    × (admission_of 0 (head ++ signature) false ≡ Err SignatureInvalid)
 unfolding read_uvarint read_from group_of read_tag read_len read_varint skip_fixed skip_value skip_field read_value read_field
     walk_from walk_at role_of set_place with_field slots_of id_parts topics_of first_long on_limits allows_unsigned mode_of
     admission_of hash_of from_bytes type_of on_total on_data decode_protobuf is_key key_matches key_inside is_peer_id same_bytes
@@ -73,12 +72,12 @@ taken = (refl, refl)
 
 -- 21, 22, 34, 23: no sender, an empty one, one that is no peer id, also where there is no seqno, and no seqno
 pub no-id :
-    (admission_of 0 ([]) true ≡ Unfit MissingFrom)
-    × (admission_of 0 (from []) true ≡ Unfit (InvalidFrom 0))
-    × (admission_of 0 (from (replicate 65 0x41)) true ≡ Unfit (InvalidFrom 65))
-    × (admission_of 0 (of (0x41 ∷ [])) true ≡ Unfit NotPeerId)
-    × (admission_of 0 (from (0x41 ∷ [])) true ≡ Unfit NotPeerId)
-    × (admission_of 0 (from peer) true ≡ Unfit InvalidSeqno)
+    (admission_of 0 ([]) true ≡ Err MissingFrom)
+    × (admission_of 0 (from []) true ≡ Err (InvalidFrom 0))
+    × (admission_of 0 (from (replicate 65 0x41)) true ≡ Err (InvalidFrom 65))
+    × (admission_of 0 (of (0x41 ∷ [])) true ≡ Err NotPeerId)
+    × (admission_of 0 (from (0x41 ∷ [])) true ≡ Err NotPeerId)
+    × (admission_of 0 (from peer) true ≡ Err InvalidSeqno)
 unfolding read_uvarint read_from group_of read_tag read_len read_varint skip_fixed skip_value skip_field read_value read_field
     walk_from walk_at role_of set_place with_field slots_of id_parts topics_of first_long on_limits allows_unsigned mode_of
     admission_of hash_of from_bytes type_of on_total on_data decode_protobuf is_key key_matches key_inside is_peer_id same_bytes
@@ -86,15 +85,15 @@ no-id = (refl, refl, refl, refl, refl, refl)
 
 -- 34: host names, a digest of 43 bytes, a byte too many, SHA-256 digests of 31 and 33 bytes, SHA-1, two bytes for a code
 pub peer-ids :
-    (admission_of 0 (of (0x67 ∷ 0x61 ∷ 0x74 ∷ 0x65 ∷ [])) true ≡ Unfit NotPeerId)
-    × (admission_of 0 (of (replicate 64 0x41)) true ≡ Unfit NotPeerId)
-    × (admission_of 0 (of (0x00 ∷ 0x2b ∷ 0x08 ∷ 0x01 ∷ 0x12 ∷ 0x27 ∷ zeros 39)) true ≡ Unfit NotPeerId)
-    × (admission_of 0 (of (peer ++ (0x00 ∷ []))) true ≡ Unfit NotPeerId)
-    × (admission_of 0 (of (0x12 ∷ 0x20 ∷ zeros 31)) true ≡ Unfit NotPeerId)
-    × (admission_of 0 (of (0x12 ∷ 0x20 ∷ zeros 33)) true ≡ Unfit NotPeerId)
-    × (admission_of 0 (of (0x12 ∷ 0x21 ∷ zeros 33)) true ≡ Unfit NotPeerId)
-    × (admission_of 0 (of (0x11 ∷ 0x14 ∷ zeros 20)) true ≡ Unfit NotPeerId)
-    × (admission_of 0 (of (0x80 ∷ 0x00 ∷ 0x00 ∷ [])) true ≡ Unfit NotPeerId)
+    (admission_of 0 (of (0x67 ∷ 0x61 ∷ 0x74 ∷ 0x65 ∷ [])) true ≡ Err NotPeerId)
+    × (admission_of 0 (of (replicate 64 0x41)) true ≡ Err NotPeerId)
+    × (admission_of 0 (of (0x00 ∷ 0x2b ∷ 0x08 ∷ 0x01 ∷ 0x12 ∷ 0x27 ∷ zeros 39)) true ≡ Err NotPeerId)
+    × (admission_of 0 (of (peer ++ (0x00 ∷ []))) true ≡ Err NotPeerId)
+    × (admission_of 0 (of (0x12 ∷ 0x20 ∷ zeros 31)) true ≡ Err NotPeerId)
+    × (admission_of 0 (of (0x12 ∷ 0x20 ∷ zeros 33)) true ≡ Err NotPeerId)
+    × (admission_of 0 (of (0x12 ∷ 0x21 ∷ zeros 33)) true ≡ Err NotPeerId)
+    × (admission_of 0 (of (0x11 ∷ 0x14 ∷ zeros 20)) true ≡ Err NotPeerId)
+    × (admission_of 0 (of (0x80 ∷ 0x00 ∷ 0x00 ∷ [])) true ≡ Err NotPeerId)
 unfolding read_uvarint read_from group_of read_tag read_len read_varint skip_fixed skip_value skip_field read_value read_field
     walk_from walk_at role_of set_place with_field slots_of id_parts topics_of first_long on_limits allows_unsigned mode_of
     admission_of hash_of from_bytes type_of on_total on_data decode_protobuf is_key key_matches key_inside is_peer_id same_bytes
@@ -102,10 +101,10 @@ peer-ids = (refl, refl, refl, refl, refl, refl, refl, refl, refl)
 
 -- 24, 25, 26: no signature, with a key and without, and one of 63 bytes; they come before 35 and 27
 pub not-signed :
-    (admission_of 0 (head ++ key (0x6b ∷ [])) true ≡ Unfit KeyWithoutSignature)
-    × (admission_of 0 (head) true ≡ Unfit MissingSignature)
-    × (admission_of 0 (head ++ short) false ≡ Unfit (InvalidSignatureLength 63))
-    × (admission_of 0 (head ++ (short ++ key (0xff ∷ []))) true ≡ Unfit (InvalidSignatureLength 63))
+    (admission_of 0 (head ++ key (0x6b ∷ [])) true ≡ Err KeyWithoutSignature)
+    × (admission_of 0 (head) true ≡ Err MissingSignature)
+    × (admission_of 0 (head ++ short) false ≡ Err (InvalidSignatureLength 63))
+    × (admission_of 0 (head ++ (short ++ key (0xff ∷ []))) true ≡ Err (InvalidSignatureLength 63))
 unfolding read_uvarint read_from group_of read_tag read_len read_varint skip_fixed skip_value skip_field read_value read_field
     walk_from walk_at role_of set_place with_field slots_of id_parts topics_of first_long on_limits allows_unsigned mode_of
     admission_of hash_of from_bytes type_of on_total on_data decode_protobuf is_key key_matches key_inside is_peer_id same_bytes
@@ -114,16 +113,16 @@ not-signed = (refl, refl, refl, refl)
 -- where unsigned messages are allowed, neither signature nor key is taken with the word or without: also of an identity
 -- over nothing and of a SHA-256 sender; 24, an empty signature, 34 and 27 of a signature stay
 pub unsigned-allowed :
-    (admission_of 1 (head) false ≡ Fit 2 40 42 43)
-    × (admission_of 1 (head) true ≡ Fit 2 40 42 43)
-    × (admission_of 1 (from (0x00 ∷ 0x00 ∷ []) ++ (seqno ++ topic)) false ≡ Fit 2 4 6 7)
-    × (admission_of 1 (from (0x12 ∷ 0x20 ∷ zeros 32) ++ (seqno ++ topic)) false ≡ Fit 2 36 38 39)
-    × (admission_of 1 (from (0x41 ∷ []) ++ (seqno ++ topic)) true ≡ Unfit NotPeerId)
-    × (admission_of 1 (head ++ key []) true ≡ Unfit KeyWithoutSignature)
-    × (admission_of 1 (head ++ (0x2a ∷ 0x00 ∷ [])) true ≡ Unfit (InvalidSignatureLength 0))
-    × (admission_of 1 (head ++ signature) false ≡ Unfit SignatureInvalid)
-    × (admission_of 1 (head ++ signature) true ≡ Fit 2 40 42 43)
-    × (admission_of 1 (from peer ++ seqno) true ≡ Unfit (TopicCount 0))
+    (admission_of 1 (head) false ≡ Ok ((2, 40), (42, 43)))
+    × (admission_of 1 (head) true ≡ Ok ((2, 40), (42, 43)))
+    × (admission_of 1 (from (0x00 ∷ 0x00 ∷ []) ++ (seqno ++ topic)) false ≡ Ok ((2, 4), (6, 7)))
+    × (admission_of 1 (from (0x12 ∷ 0x20 ∷ zeros 32) ++ (seqno ++ topic)) false ≡ Ok ((2, 36), (38, 39)))
+    × (admission_of 1 (from (0x41 ∷ []) ++ (seqno ++ topic)) true ≡ Err NotPeerId)
+    × (admission_of 1 (head ++ key []) true ≡ Err KeyWithoutSignature)
+    × (admission_of 1 (head ++ (0x2a ∷ 0x00 ∷ [])) true ≡ Err (InvalidSignatureLength 0))
+    × (admission_of 1 (head ++ signature) false ≡ Err SignatureInvalid)
+    × (admission_of 1 (head ++ signature) true ≡ Ok ((2, 40), (42, 43)))
+    × (admission_of 1 (from peer ++ seqno) true ≡ Err (TopicCount 0))
 unfolding read_uvarint read_from group_of read_tag read_len read_varint skip_fixed skip_value skip_field read_value read_field
     walk_from walk_at role_of set_place with_field slots_of id_parts topics_of first_long on_limits allows_unsigned mode_of
     admission_of hash_of from_bytes type_of on_total on_data decode_protobuf is_key key_matches key_inside is_peer_id same_bytes
@@ -131,16 +130,16 @@ unsigned-allowed = (refl, refl, refl, refl, refl, refl, refl, refl, refl, refl)
 
 -- 35, 36 of an identity: its key again, another, none, none that decodes; the shortest and the longest; with the word or without
 pub identities :
-    (admission_of 0 (head ++ (signature ++ key (0x08 ∷ 0x01 ∷ 0x12 ∷ 0x20 ∷ key_data))) true ≡ Fit 2 40 42 43)
-    × (admission_of 0 (head ++ (signature ++ key (0x08 ∷ 0x01 ∷ 0x12 ∷ 0x20 ∷ key_data))) false ≡ Unfit SignatureInvalid)
-    × (admission_of 0 (head ++ (signature ++ key (0x08 ∷ 0x02 ∷ 0x12 ∷ 0x20 ∷ key_data))) false ≡ Unfit KeyPeerIdMismatch)
-    × (admission_of 0 (head ++ (signature ++ key (0xff ∷ []))) false ≡ Unfit InvalidKey)
-    × (admission_of 0 (head ++ (signature ++ key [])) true ≡ Unfit InvalidKey)
-    × (admission_of 0 (of (0x00 ∷ 0x00 ∷ [])) true ≡ Unfit KeyPeerIdMismatch)
-    × (admission_of 0 (of (0x00 ∷ 0x03 ∷ 0x41 ∷ 0x42 ∷ 0x43 ∷ [])) true ≡ Unfit KeyPeerIdMismatch)
-    × (admission_of 0 (of (0x00 ∷ 0x03 ∷ 0x41 ∷ 0x42 ∷ 0x43 ∷ []) ++ key (0x41 ∷ 0x42 ∷ 0x43 ∷ [])) true ≡ Unfit InvalidKey)
-    × (admission_of 0 (of (0x00 ∷ 0x04 ∷ 0x08 ∷ 0x01 ∷ 0x12 ∷ 0x00 ∷ [])) true ≡ Fit 2 8 10 11)
-    × (admission_of 0 (of (0x00 ∷ 0x2a ∷ 0x08 ∷ 0x01 ∷ 0x12 ∷ 0x26 ∷ zeros 38)) true ≡ Fit 2 46 48 49)
+    (admission_of 0 (head ++ (signature ++ key (0x08 ∷ 0x01 ∷ 0x12 ∷ 0x20 ∷ key_data))) true ≡ Ok ((2, 40), (42, 43)))
+    × (admission_of 0 (head ++ (signature ++ key (0x08 ∷ 0x01 ∷ 0x12 ∷ 0x20 ∷ key_data))) false ≡ Err SignatureInvalid)
+    × (admission_of 0 (head ++ (signature ++ key (0x08 ∷ 0x02 ∷ 0x12 ∷ 0x20 ∷ key_data))) false ≡ Err KeyPeerIdMismatch)
+    × (admission_of 0 (head ++ (signature ++ key (0xff ∷ []))) false ≡ Err InvalidKey)
+    × (admission_of 0 (head ++ (signature ++ key [])) true ≡ Err InvalidKey)
+    × (admission_of 0 (of (0x00 ∷ 0x00 ∷ [])) true ≡ Err KeyPeerIdMismatch)
+    × (admission_of 0 (of (0x00 ∷ 0x03 ∷ 0x41 ∷ 0x42 ∷ 0x43 ∷ [])) true ≡ Err KeyPeerIdMismatch)
+    × (admission_of 0 (of (0x00 ∷ 0x03 ∷ 0x41 ∷ 0x42 ∷ 0x43 ∷ []) ++ key (0x41 ∷ 0x42 ∷ 0x43 ∷ [])) true ≡ Err InvalidKey)
+    × (admission_of 0 (of (0x00 ∷ 0x04 ∷ 0x08 ∷ 0x01 ∷ 0x12 ∷ 0x00 ∷ [])) true ≡ Ok ((2, 8), (10, 11)))
+    × (admission_of 0 (of (0x00 ∷ 0x2a ∷ 0x08 ∷ 0x01 ∷ 0x12 ∷ 0x26 ∷ zeros 38)) true ≡ Ok ((2, 46), (48, 49)))
 unfolding read_uvarint read_from group_of read_tag read_len read_varint skip_fixed skip_value skip_field read_value read_field
     walk_from walk_at role_of set_place with_field slots_of id_parts topics_of first_long on_limits allows_unsigned mode_of
     admission_of hash_of from_bytes type_of on_total on_data decode_protobuf is_key key_matches key_inside is_peer_id same_bytes
@@ -148,10 +147,10 @@ identities = (refl, refl, refl, refl, refl, refl, refl, refl, refl, refl)
 
 -- of a SHA-256 sender: no key, one that is none, one; a digest that would decode is no key
 pub hashes :
-    (admission_of 0 (of (0x12 ∷ 0x20 ∷ replicate 32 7)) true ≡ Unfit KeyPeerIdMismatch)
-    × (admission_of 0 (of (0x12 ∷ 0x20 ∷ replicate 32 7) ++ key (0xff ∷ [])) true ≡ Unfit InvalidKey)
-    × (admission_of 0 (of (0x12 ∷ 0x20 ∷ replicate 32 7) ++ key (0x08 ∷ 0x01 ∷ 0x12 ∷ 0x20 ∷ key_data)) true ≡ Fit 2 36 38 39)
-    × (admission_of 0 (of (0x12 ∷ 0x20 ∷ 0x08 ∷ 0x01 ∷ 0x12 ∷ 0x1c ∷ replicate 28 0x41)) true ≡ Unfit KeyPeerIdMismatch)
+    (admission_of 0 (of (0x12 ∷ 0x20 ∷ replicate 32 7)) true ≡ Err KeyPeerIdMismatch)
+    × (admission_of 0 (of (0x12 ∷ 0x20 ∷ replicate 32 7) ++ key (0xff ∷ [])) true ≡ Err InvalidKey)
+    × (admission_of 0 (of (0x12 ∷ 0x20 ∷ replicate 32 7) ++ key (0x08 ∷ 0x01 ∷ 0x12 ∷ 0x20 ∷ key_data)) true ≡ Ok ((2, 36), (38, 39)))
+    × (admission_of 0 (of (0x12 ∷ 0x20 ∷ 0x08 ∷ 0x01 ∷ 0x12 ∷ 0x1c ∷ replicate 28 0x41)) true ≡ Err KeyPeerIdMismatch)
 unfolding read_uvarint read_from group_of read_tag read_len read_varint skip_fixed skip_value skip_field read_value read_field
     walk_from walk_at role_of set_place with_field slots_of id_parts topics_of first_long on_limits allows_unsigned mode_of
     admission_of hash_of from_bytes type_of on_total on_data decode_protobuf is_key key_matches key_inside is_peer_id same_bytes
@@ -159,9 +158,9 @@ hashes = (refl, refl, refl, refl)
 
 -- 28: four topics are taken, five are not; 36 comes first
 pub five-topics :
-    (admission_of 0 (head ++ (topic ++ (topic ++ (topic ++ signature)))) true ≡ Fit 2 40 42 43)
-    × (admission_of 0 (head ++ (topic ++ (topic ++ (topic ++ (topic ++ signature))))) true ≡ Unfit (TopicCount 5))
-    × (admission_of 0 (head ++ (topic ++ (topic ++ (topic ++ (topic ++ (signature ++ key (0x08 ∷ 0x02 ∷ 0x12 ∷ 0x20 ∷ key_data))))))) true ≡ Unfit KeyPeerIdMismatch)
+    (admission_of 0 (head ++ (topic ++ (topic ++ (topic ++ signature)))) true ≡ Ok ((2, 40), (42, 43)))
+    × (admission_of 0 (head ++ (topic ++ (topic ++ (topic ++ (topic ++ signature))))) true ≡ Err (TopicCount 5))
+    × (admission_of 0 (head ++ (topic ++ (topic ++ (topic ++ (topic ++ (signature ++ key (0x08 ∷ 0x02 ∷ 0x12 ∷ 0x20 ∷ key_data))))))) true ≡ Err KeyPeerIdMismatch)
 unfolding read_uvarint read_from group_of read_tag read_len read_varint skip_fixed skip_value skip_field read_value read_field
     walk_from walk_at role_of set_place with_field slots_of id_parts topics_of first_long on_limits allows_unsigned mode_of
     admission_of hash_of from_bytes type_of on_total on_data decode_protobuf is_key key_matches key_inside is_peer_id same_bytes
@@ -222,10 +221,10 @@ grouped =
     ∷ 0x2b ∷ 0x2a ∷ 0x00 ∷ 0x2c ∷ []
 
 pub groups-passed :
-    (admission_of 2 (grouped ++ (head ++ signature)) true ≡ Fit 16 54 56 57)
-    × (admission_of 2 (grouped ++ (head ++ signature)) false ≡ Unfit SignatureInvalid)
-    × (admission_of 2 (head ++ grouped) true ≡ Unfit MissingSignature)
-    × (admission_of 3 (head ++ grouped) false ≡ Fit 2 40 42 43)
+    (admission_of 2 (grouped ++ (head ++ signature)) true ≡ Ok ((16, 54), (56, 57)))
+    × (admission_of 2 (grouped ++ (head ++ signature)) false ≡ Err SignatureInvalid)
+    × (admission_of 2 (head ++ grouped) true ≡ Err MissingSignature)
+    × (admission_of 3 (head ++ grouped) false ≡ Ok ((2, 40), (42, 43)))
     × (topic_places Groups (grouped ++ (head ++ signature)) ≡ at 59 1 ∷ [])
 unfolding read_uvarint read_from group_of read_tag read_len read_varint skip_fixed skip_value passed skip_from skip_group
     skip_field read_value read_field walk_from walk_at role_of set_place with_field slots_of id_parts topics_of topic_places

@@ -1,5 +1,5 @@
 -- What a message tells that is taken or not: the scope's number and the values beside it.
-use Rattle.std.specs.Prelude.{[], ◌∷◌}
+use Rattle.std.specs.Prelude.{Result, Ok, Err, ℕ, [], ◌∷◌}
 use Rattle.basis.specs.declared.Told.{Told}
 use Rattle.basis.specs.Refusals.{missing-from, invalid_from, invalid_seqno, key-without-signature, missing-signature}
 use Rattle.basis.specs.Refusals.{invalid_signature-length, signature_invalid, topic-count, topic-too_long}
@@ -7,8 +7,6 @@ use Rattle.basis.specs.Refusals.{message-too_long, not-peer_id, invalid_key, key
 use Rattle.basis.specs.Told.{told, done}
 use Rattle.admission.specs.declared.Unfit.{Unfit}
 use Rattle.admission.specs.declared.Unfit.TheVariants as unfit
-use Rattle.admission.specs.declared.Admission.{Admission}
-use Rattle.admission.specs.declared.Admission.TheVariants as admission
 
 abbrev pub unfit_told : Unfit → Told
 unfit_told unfit.MissingFrom = told missing-from []
@@ -26,6 +24,6 @@ unfit_told (unfit.TopicTooLong len) = told topic-too_long (len ∷ [])
 unfit_told (unfit.MessageTooLong len) = told message-too_long (len ∷ [])
 
 -- where from starts and ends, and seqno
-abbrev pub admission_told : Admission → Told
-admission_told (admission.Unfit why) = unfit_told why
-admission_told (admission.Fit a e b f) = done (a ∷ e ∷ b ∷ f ∷ [])
+abbrev pub admission_told : Result ((ℕ × ℕ) × (ℕ × ℕ)) Unfit → Told
+admission_told (Err why) = unfit_told why
+admission_told (Ok ((a, e), (b, f))) = done (a ∷ e ∷ b ∷ f ∷ [])

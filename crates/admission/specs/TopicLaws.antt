@@ -1,5 +1,5 @@
 -- Laws of the places of a message's topics: cut out they are its topics; and places kept as numbers are found again.
-use Rattle.std.specs.Prelude.{ℕ, zero, suc, ◌+◌, ◌-◌, ◌≤◌, ◌<◌, ◌≡◌, refl, Bool, true, false, ◌&&◌, List, [], ◌∷◌, map, length, take, drop, get_or, eqb}
+use Rattle.std.specs.Prelude.{ℕ, zero, suc, ◌+◌, ◌-◌, ◌≤◌, ◌≡◌, refl, true, List, [], ◌∷◌, map, length, take, drop, get_or}
 use Rattle.std.proofs.Common.{sym, ap, ◌∙◌, arith, get_or-take, eqb-true, eq-eqb}
 use Rattle.std.proofs.lemmas.List.{length-map}
 use Rattle.std.proofs.lemmas.List.Edits.{sets}
@@ -9,7 +9,6 @@ use Rattle.basis.specs.Dialect.{mode_of}
 use Rattle.basis.specs.Cases.{either, clash, both}
 use Rattle.protobuf.specs.Walk.{Fields, end, refused, ◌then◌, fields_of, walk_at, is_bytes, value_in}
 use Rattle.protobuf.specs.WalkLaws.{along}
-use Rattle.rows.specs.Rows.{tab}
 use Rattle.rows.specs.RowsLaws.{length-tab, tab_ext}
 use Rattle.rows.specs.ListLaws.{put-sets}
 use Rattle.admission.specs.declared.Topics.{Topics}

@@ -4,7 +4,7 @@
 
 pub mod told;
 
-ghost use Rattle.std.specs.Prelude.{◌≡◌, true, cond, ◌+◌, ◌≤◌, ◌<◌, length, set};
+ghost use Rattle.std.specs.Prelude.{Ok, ◌≡◌, true, cond, ◌+◌, ◌≤◌, ◌<◌, length, set};
 ghost use Rattle.protobuf.specs.Walk.{is_bytes};
 ghost use Rattle.basis.specs.Dialect.{mode_of};
 ghost use Rattle.rows.specs.Ids.{same_bytes};
@@ -14,12 +14,12 @@ ghost use Rattle.admission.specs.Flags.{known_flags, allows_unsigned};
 ghost use Rattle.admission.specs.Admission.{spans_in, same_spans, topics_in, FindsTopics, long_after, is_key, key_matches, key_inside, on_key, on_signature, on_word, on_limits, is_peer_id, part_at, admission_of, is_signed, id_given, kept_with};
 
 use basis::{Mode, mode_of};
-use ids::{MessageId, id_of};
-use key::{PublicKey, decode_protobuf};
+use ids::{IdError, id_of};
+use key::decode_protobuf;
 use peer_id::{DIGEST_START, PeerId, from_bytes};
-use protobuf::{Field, Step, WIRE_LEN, read_field};
-use rows::{same, short_at};
-use schema::{Counted, Kind, Place, count, slots_of};
+use protobuf::{Field, WIRE_LEN, read_field};
+use rows::{at_or, same};
+use schema::{Kind, Place, Slots, count, slots_of};
 
 pub const SIGNATURE_LEN: usize = 64;
 
@@ -53,18 +53,6 @@ pub enum Unfit {
     MessageTooLong(usize),
 }
 
-// Where from and seqno stand in a message that may be taken, or why it may not.
-#[derive(Clone, Copy)]
-pub enum Admission {
-    Unfit(Unfit),
-    Fit {
-        from_start: usize,
-        from_end: usize,
-        seqno_start: usize,
-        seqno_end: usize,
-    },
-}
-
 // The topics of a message: how many there are, and the length of the first that is too long, 0 where none is.
 #[derive(Clone, Copy)]
 pub struct Topics {
@@ -90,10 +78,7 @@ pub fn allows_unsigned(flags: usize) -> bool
 fn is_topic(f: Field) -> bool
     ensures { result ≡ is_bytes 4 f }
 {
-    if f.wire_type == WIRE_LEN {
-        return f.field == 4;
-    }
-    false
+    f.wire_type == WIRE_LEN && f.field == 4
 }
 
 // How many topics there are, a field further.
@@ -108,15 +93,12 @@ fn count_after(f: Field, n: usize) -> usize
 }
 
 // The length of the first topic that is too long, a field of `len` bytes further.
+#[tactic(auto, unfolding(crate::specs::Admission::long_after))]
 fn long_after(f: Field, len: usize, long: usize) -> usize
     ensures { result ≡ long_after f len long }
 {
-    if is_topic(f) {
-        if long == 0 {
-            if MAX_TOPIC_SIZE < len {
-                return len;
-            }
-        }
+    if is_topic(f) && long == 0 && MAX_TOPIC_SIZE < len {
+        return len;
     }
     long
 }
@@ -125,10 +107,8 @@ fn long_after(f: Field, len: usize, long: usize) -> usize
 fn note(there: bool, out: &mut [usize], i: usize, v: usize)
     ensures { out.new ≡ cond there (set out.old i v) out.old }
 {
-    if there {
-        if i < out.len() {
-            out[i] = v;
-        }
+    if there && i < out.len() {
+        out[i] = v;
     }
 }
 
@@ -139,69 +119,50 @@ pub fn topics_of(mode: Mode, part: &[u8], starts: &mut [usize], sizes: &mut [usi
     let mut at: usize = 0;
     let mut n: usize = 0;
     let mut long: usize = 0;
-    while at < part.len() {
-        let step = read_field(mode, part, at);
-        match step {
-            Step::End => {
-                return Topics { count: n, long };
-            }
-            Step::Refused(_) => {
-                return Topics { count: n, long };
-            }
-            Step::At(f) => {
-                let len = f.next - f.start;
-                let there = is_topic(f);
-                note(there, starts, n, f.start);
-                note(there, sizes, n, len);
-                n = count_after(f, n);
-                long = long_after(f, len, long);
-                at = f.next;
-            }
-        }
+    while let Ok(Some(f)) = read_field(mode, part, at) {
+        let len = f.next - f.start;
+        let there = is_topic(f);
+        note(there, starts, n, f.start);
+        note(there, sizes, n, len);
+        n = count_after(f, n);
+        long = long_after(f, len, long);
+        at = f.next;
     }
     Topics { count: n, long }
 }
 
 // 28, 29, 30.
-fn limits(mode: Mode, part: &[u8], t: Topics, fit: Admission) -> Admission
+fn limits(mode: Mode, part: &[u8], t: Topics) -> Result<(), Unfit>
     requires { t ≡ topics_in mode part.now }
-    ensures { result ≡ on_limits mode part.now fit }
+    ensures { result ≡ on_limits mode part.now (Ok tt) }
 {
-    if t.count == 0 {
-        return Admission::Unfit(Unfit::TopicCount(t.count));
-    }
-    if MAX_TOPICS < t.count {
-        return Admission::Unfit(Unfit::TopicCount(t.count));
+    if t.count == 0 || MAX_TOPICS < t.count {
+        return Err(Unfit::TopicCount(t.count));
     }
     if t.long != 0 {
-        return Admission::Unfit(Unfit::TopicTooLong(t.long));
+        return Err(Unfit::TopicTooLong(t.long));
     }
     if MAX_MESSAGE_SIZE < part.len() {
-        return Admission::Unfit(Unfit::MessageTooLong(part.len()));
+        return Err(Unfit::MessageTooLong(part.len()));
     }
-    fit
+    Ok(())
 }
 
 // Whether some bytes are a public key.
 pub fn is_key(bytes: &[u8]) -> bool
     ensures { result ≡ is_key bytes.now }
 {
-    let key = decode_protobuf(bytes);
-    match key {
-        PublicKey::Key { .. } => true,
-        PublicKey::Refused(_) => false,
-    }
+    decode_protobuf(bytes).is_ok()
 }
 
 // Whether a key may be the sender's: an identity's digest is the key itself, and of a SHA-256 multihash the host's word says it.
 pub fn key_matches(sender: &[u8], key: &[u8]) -> bool
     ensures { result ≡ key_matches sender.now key.now }
 {
-    let peer = from_bytes(sender);
-    match peer {
-        PeerId::Identity => same(&sender[DIGEST_START..], key),
-        PeerId::Sha256 => true,
-        PeerId::NotPeerId => false,
+    match from_bytes(sender) {
+        Some(PeerId::Identity) => same(&sender[DIGEST_START..], key),
+        Some(PeerId::Sha256) => true,
+        None => false,
     }
 }
 
@@ -209,96 +170,70 @@ pub fn key_matches(sender: &[u8], key: &[u8]) -> bool
 pub fn key_inside(sender: &[u8]) -> bool
     ensures { result ≡ key_inside sender.now }
 {
-    let peer = from_bytes(sender);
-    match peer {
-        PeerId::Identity => is_key(&sender[DIGEST_START..]),
-        PeerId::Sha256 => false,
-        PeerId::NotPeerId => false,
+    match from_bytes(sender) {
+        Some(PeerId::Identity) => is_key(&sender[DIGEST_START..]),
+        Some(PeerId::Sha256) => false,
+        None => false,
     }
 }
 
-// 27, and then the limits.
-fn worded(mode: Mode, part: &[u8], t: Topics, verified: bool, fit: Admission) -> Admission
-    requires { t ≡ topics_in mode part.now }
-    ensures { result ≡ on_word verified (on_limits mode part.now fit) }
-{
-    if verified {
-        return limits(mode, part, t, fit);
-    }
-    Admission::Unfit(Unfit::SignatureInvalid)
-}
-
-// 35, 36, and then the host's word.
-fn keyed(
-    mode: Mode,
-    part: &[u8],
-    t: Topics,
-    sender: &[u8],
-    key: Place,
-    verified: bool,
-    fit: Admission,
-) -> Admission
-    requires t_value { t ≡ topics_in mode part.now }
-    requires place_inside { PlaceInside part.now key }
-    ensures { result ≡ on_key part.now sender.now key (on_word verified (on_limits mode part.now fit)) }
+// 35, 36.
+fn keyed(part: &[u8], sender: &[u8], key: Place) -> Result<(), Unfit>
+    requires { PlaceInside part.now key }
+    ensures { result ≡ on_key part.now sender.now key (Ok tt) }
 {
     let Place::Present { start: a, end: e } = key else {
-        if key_inside(sender) {
-            return worded(mode, part, t, verified, fit);
+        if !key_inside(sender) {
+            return Err(Unfit::KeyPeerIdMismatch);
         }
-        return Admission::Unfit(Unfit::KeyPeerIdMismatch);
+        return Ok(());
     };
-    if is_key(&part[a..e]) {
-        if key_matches(sender, &part[a..e]) {
-            return worded(mode, part, t, verified, fit);
-        }
-        return Admission::Unfit(Unfit::KeyPeerIdMismatch);
+    if !is_key(&part[a..e]) {
+        return Err(Unfit::InvalidKey);
     }
-    Admission::Unfit(Unfit::InvalidKey)
+    if !key_matches(sender, &part[a..e]) {
+        return Err(Unfit::KeyPeerIdMismatch);
+    }
+    Ok(())
 }
 
-// 24 or 25, 26, and then the key; where unsigned messages are allowed, the limits alone of one with neither signature nor key.
+// 24 or 25, 26, then the key, and 27; where unsigned messages are allowed, nothing of one with neither signature nor key.
 fn signed(
-    mode: Mode,
     part: &[u8],
-    t: Topics,
     sender: &[u8],
     signature: Place,
     key: Place,
     verified: bool,
     unsigned: bool,
-    fit: Admission,
-) -> Admission
-    requires t_value { t ≡ topics_in mode part.now }
-    requires place_inside { PlaceInside part.now key }
-    ensures { result ≡ on_signature unsigned signature key (on_key part.now sender.now key (on_word verified (on_limits mode part.now fit))) (on_limits mode part.now fit) }
+) -> Result<(), Unfit>
+    requires { PlaceInside part.now key }
+    ensures { result ≡ on_signature unsigned signature key (on_key part.now sender.now key (on_word verified (Ok tt))) (Ok tt) }
 {
     let Place::Present { start: a, end: e } = signature else {
         if let Place::Absent = key {
             if unsigned {
-                return limits(mode, part, t, fit);
+                return Ok(());
             }
-            return Admission::Unfit(Unfit::MissingSignature);
+            return Err(Unfit::MissingSignature);
         }
-        return Admission::Unfit(Unfit::KeyWithoutSignature);
+        return Err(Unfit::KeyWithoutSignature);
     };
     let len = ids::span(a, e);
     if len != SIGNATURE_LEN {
-        return Admission::Unfit(Unfit::InvalidSignatureLength(len));
+        return Err(Unfit::InvalidSignatureLength(len));
     }
-    keyed(mode, part, t, sender, key, verified, fit)
+    keyed(part, sender, key)?;
+    if !verified {
+        return Err(Unfit::SignatureInvalid);
+    }
+    Ok(())
 }
 
 // Whether some bytes are a peer id.
 pub fn is_peer_id(sender: &[u8]) -> bool
     ensures { result ≡ is_peer_id sender.now }
 {
-    let peer = from_bytes(sender);
-    match peer {
-        PeerId::Identity => true,
-        PeerId::Sha256 => true,
-        PeerId::NotPeerId => false,
-    }
+    from_bytes(sender).is_some()
 }
 
 // Whether the sender is a peer id, by where it stands.
@@ -313,58 +248,56 @@ fn known(part: &[u8], from: Place) -> bool
 }
 
 // Whether a message with these topics may be taken, given the host's word on its signature: 21 to 30, 34, 35, 36, in the table's order.
-fn weigh(part: &[u8], t: Topics, verified: bool, flags: usize) -> Admission
+fn weigh(
+    part: &[u8],
+    t: Topics,
+    verified: bool,
+    flags: usize,
+) -> Result<((usize, usize), (usize, usize)), Unfit>
     requires { t ≡ topics_in (mode_of flags) part.now }
     ensures { result ≡ admission_of flags part.now verified }
 {
     let mode = mode_of(flags as u64);
-    let slots = slots_of(mode, part, Kind::RawMessage);
-    let from = slots.first;
-    let seqno = slots.third;
-    let signature = slots.fourth;
-    let key = slots.fifth;
-    let id = id_of(from, seqno);
-    match id {
-        MessageId::MissingFrom => Admission::Unfit(Unfit::MissingFrom),
-        MessageId::InvalidFrom(n) => Admission::Unfit(Unfit::InvalidFrom(n)),
-        MessageId::InvalidSeqno => {
-            if known(part, from) {
-                return Admission::Unfit(Unfit::InvalidSeqno);
+    let Slots {
+        first: from,
+        third: seqno,
+        fourth: signature,
+        fifth: key,
+        ..
+    } = slots_of(mode, part, Kind::RawMessage);
+    match id_of(from, seqno) {
+        Err(IdError::MissingFrom) => Err(Unfit::MissingFrom),
+        Err(IdError::InvalidFrom(n)) => Err(Unfit::InvalidFrom(n)),
+        Err(IdError::InvalidSeqno) => {
+            if !known(part, from) {
+                return Err(Unfit::NotPeerId);
             }
-            Admission::Unfit(Unfit::NotPeerId)
+            Err(Unfit::InvalidSeqno)
         }
-        MessageId::Parts {
-            from_start,
-            from_end,
-            seqno_start,
-            seqno_end,
-        } => {
-            let fit = Admission::Fit {
-                from_start,
-                from_end,
-                seqno_start,
-                seqno_end,
-            };
-            if known(part, from) {
-                return signed(
-                    mode,
-                    part,
-                    t,
-                    &part[from_start..from_end],
-                    signature,
-                    key,
-                    verified,
-                    allows_unsigned(flags),
-                    fit,
-                );
+        Ok(((a, e), (b, f))) => {
+            if !known(part, from) {
+                return Err(Unfit::NotPeerId);
             }
-            Admission::Unfit(Unfit::NotPeerId)
+            signed(
+                part,
+                &part[a..e],
+                signature,
+                key,
+                verified,
+                allows_unsigned(flags),
+            )?;
+            limits(mode, part, t)?;
+            Ok(((a, e), (b, f)))
         }
     }
 }
 
 // Whether a message may be taken under a gateway's flags, given the host's word on its signature.
-pub fn admit(part: &[u8], verified: bool, flags: usize) -> Admission
+pub fn admit(
+    part: &[u8],
+    verified: bool,
+    flags: usize,
+) -> Result<((usize, usize), (usize, usize)), Unfit>
     ensures { result ≡ admission_of flags part.now verified }
 {
     let mut starts = [0usize; MAX_TOPICS];
@@ -378,11 +311,7 @@ pub fn is_signed(mode: Mode, part: &[u8]) -> bool
     ensures { result ≡ is_signed mode part.now }
 {
     let slots = slots_of(mode, part, Kind::RawMessage);
-    let place = slots.fourth;
-    if let Place::Absent = place {
-        return false;
-    }
-    true
+    matches!(slots.fourth, Place::Present { .. })
 }
 
 // Whether an id is that of the message in a part: from and then seqno.
@@ -401,6 +330,7 @@ fn same_parts(part: &[u8], a: usize, e: usize, b: usize, f: usize, id: &[u8]) ->
 }
 
 // Whether the first n places of two lists are the same. The second is a row of a lent state: past its end it has zeros.
+#[tactic(auto, using(crate::proofs::Turns::spans_walked), unfolding(crate::specs::Admission::same_spans))]
 fn same_spans(
     starts: &[usize],
     sizes: &[usize],
@@ -411,15 +341,13 @@ fn same_spans(
     requires { (n ≤ length starts.now) × (n ≤ length sizes.now) }
     ensures { result ≡ same_spans (spans_in starts.now sizes.now n) (spans_in kept_starts.now kept_sizes.now n) }
 {
-    let mut i = 0;
-    while i < n {
-        if starts[i] != short_at(kept_starts, i) as usize {
+    for i in 0..n {
+        if starts[i] != at_or(kept_starts, i, 0) as usize {
             return false;
         }
-        if sizes[i] != short_at(kept_sizes, i) as usize {
+        if sizes[i] != at_or(kept_sizes, i, 0) as usize {
             return false;
         }
-        i += 1;
     }
     true
 }
@@ -429,16 +357,10 @@ fn names(part: &[u8], t: Topics, id: &[u8], flags: usize) -> bool
     requires { t ≡ topics_in (mode_of flags) part.now }
     ensures { result ≡ id_given part.now id.now (admission_of flags part.now true) }
 {
-    let r = weigh(part, t, true, flags);
-    match r {
-        Admission::Unfit(_) => false,
-        Admission::Fit {
-            from_start,
-            from_end,
-            seqno_start,
-            seqno_end,
-        } => same_parts(part, from_start, from_end, seqno_start, seqno_end, id),
-    }
+    let Ok(((a, e), (b, f))) = weigh(part, t, true, flags) else {
+        return false;
+    };
+    same_parts(part, a, e, b, f, id)
 }
 
 // Whether some bytes are a message that may be taken under a gateway's flags, its id is this one, and its topics stand in the n places that are kept
@@ -454,23 +376,14 @@ pub fn kept_with(
     ensures { result ≡ kept_with flags part.now id.now (spans_in kept_starts.now kept_sizes.now n) }
 {
     let mode = mode_of(flags as u64);
-    let c = count(mode, part, Kind::RawMessage);
-    match c {
-        Counted::Refused(_) => false,
-        Counted::Records(_) => {
-            let mut starts = [0usize; MAX_TOPICS];
-            let mut sizes = [0usize; MAX_TOPICS];
-            let t = topics_of(mode, part, &mut starts, &mut sizes);
-            if t.count != n {
-                return false;
-            }
-            if MAX_TOPICS < n {
-                return false;
-            }
-            if same_spans(&starts, &sizes, n, kept_starts, kept_sizes) {
-                return names(part, t, id, flags);
-            }
-            false
-        }
+    if count(mode, part, Kind::RawMessage).is_err() {
+        return false;
     }
+    let mut starts = [0usize; MAX_TOPICS];
+    let mut sizes = [0usize; MAX_TOPICS];
+    let t = topics_of(mode, part, &mut starts, &mut sizes);
+    if t.count != n || MAX_TOPICS < n {
+        return false;
+    }
+    same_spans(&starts, &sizes, n, kept_starts, kept_sizes) && names(part, t, id, flags)
 }

@@ -1,12 +1,11 @@
 -- One round: every call in it is done, all that is served is got, and of what the asker lacks fifteen messages arrive,
 -- or all.
 use Prim.Native.Nat.{ℕ, zero, suc, ◌+◌, ◌-◌, ◌≤◌, ◌<◌}
-use Rattle.std.specs.Prelude.{◌≡◌, refl, ◌||◌, length, take, eqb}
+use Rattle.std.specs.Prelude.{Some, ◌≡◌, refl, ◌||◌, length, take, eqb}
 use Rattle.std.proofs.Math.Path.{sym, ap}
 use Rattle.std.proofs.Common.{subst, ◌∙◌, length-append, length-take-le}
 use Rattle.std.proofs.Math.Bool.{true, false}
 use mathlib.Core.List.{List, [], ◌∷◌, ◌++◌}
-use Rattle.std.proofs.Math.Option.{some}
 use native.Mathlib.Omega.{arith}
 use Rattle.std.proofs.Math.ListN.{get_or}
 use Rattle.std.proofs.Math.Seq.{take-length}
@@ -63,7 +62,7 @@ stands (suc k) i (j ∷ l) h =
 
 module _ {set : List (List ℕ)} {x : Settings} (ms : MessageSet x.flags set) {first past : ℕ} (rs : List ℕ) {left : ℕ}
     (eds : ℕ → Edition) (body : List ℕ) (at : ℕ → ℕ) (served : List (List ℕ)) (n : ℕ)
-    (brings-each : (i : ℕ) → i < n → brought x.flags (admit (eds i) body i true (at i)) ≡ some (get_or served i []))
+    (brings-each : (i : ℕ) → i < n → brought x.flags (admit (eds i) body i true (at i)) ≡ Some (get_or served i []))
     (inside : (i : ℕ) → i < n → among (get_or served i []) set ≡ true) (few : n ≤ length served) where
   pub all-admitted : (k i : ℕ) {got : List (List ℕ)} {s : State} → i + k ≤ n
       → Holding set x first past (readings (admits eds body at i k) ++ rs) left got s
@@ -127,7 +126,7 @@ module _ {set : List (List ℕ)} {x y : Settings} (ms : MessageSet x.flags set) 
   in_mode = subst (λ (f : ℕ). Delivers (mode_of f) handed (p.reply_out 0)) (sym alike) (reply-delivers ha hb p fair)
 
   reply-brings : (i : ℕ) → i < served_count p a b
-      → brought x.flags (admit (p.admit_edition 0 i) (reply_of p a b) i true (at i)) ≡ some (get_or handed i [])
+      → brought x.flags (admit (p.admit_edition 0 i) (reply_of p a b) i true (at i)) ≡ Some (get_or handed i [])
   reply-brings i l =
       let e = served-is ha hb p fair in
       rw (replied ha hb p fair)

@@ -1,9 +1,8 @@
 -- An example with unsigned messages: two gateways that allow them, two messages without a signature, of which the
 -- second is lost on its way to the first gateway, and histories that meet every premise, one of them without the host's
 -- word. One round brings the second message.
-use Rattle.std.specs.Prelude.{ℕ, ◌≡◌, refl, true, false, List, [], ◌∷◌, get_or}
+use Rattle.std.specs.Prelude.{Some, ℕ, ◌≡◌, refl, true, false, List, [], ◌∷◌, get_or}
 use Rattle.std.proofs.Common.{ap, arith}
-use Rattle.std.proofs.Math.Option.{some}
 use Rattle.basis.specs.declared.Edition.{Edition}
 use Rattle.basis.specs.declared.Edition.TheVariants.{V12}
 use Rattle.basis.specs.Dialect.{mode_of}
@@ -52,7 +51,7 @@ differ : id_of 1 ≡ id_of 2 → ⊥
 differ e = let z : ◌≡◌ {A = ℕ} 1 2 = ap (λ (l : List ℕ). get_or l 38 0) e in absurd (omega arith)
 
 -- without the word, too, the first comes in
-pub wordless : (ed : Edition) (at : ℕ) → brought 1 (admit ed (unsigned_body 1) 0 false at) ≡ some (unsigned 1)
+pub wordless : (ed : Edition) (at : ℕ) → brought 1 (admit ed (unsigned_body 1) 0 false at) ≡ Some (unsigned 1)
 unfolding unsigned unsigned_body brought vouched allows_unsigned is_signed slots_of with_field set_place accept_of body_records
     counted over_kinds to_depth text_count role_of rank own_of is_utf8 run walk_at walk_from read_field read_value skip_field
     skip_fixed read_varint read_len read_tag read_uvarint read_from group_of message_at

@@ -1,10 +1,10 @@
 -- What a gateway holds in a history under the premises: the messages got, each once, the oldest first. Their marked ids
 -- are the ids seen, they are the messages cached, and nothing ever leaves.
-use Rattle.std.specs.Prelude.{ℕ, suc, ◌+◌, ◌-◌, ◌*◌, ◌≤◌, ◌<◌, ◌≡◌, refl, Bool, cond, ◌||◌, List, [], ◌∷◌, ◌++◌, length, get_or, leb, ltb, eqb}
+use Rattle.std.specs.Prelude.{Option, Some, None, Ok, ℕ, suc, ◌+◌, ◌-◌, ◌*◌, ◌≤◌, ◌<◌, ◌≡◌, refl, Bool, cond, ◌||◌}
+use Rattle.std.specs.Prelude.{List, [], ◌∷◌, ◌++◌, length, get_or, leb, ltb, eqb}
 use Rattle.std.proofs.Common.{sym, subst, ◌∙◌, append-nil, append_assoc, zero-lt-suc, length-append, leb-true}
 use Rattle.std.proofs.Math.Path.{ap}
 use Rattle.std.proofs.Math.Bool.{true, false, not, not-not}
-use Rattle.std.proofs.Math.Option.{Option, none, some}
 use native.Mathlib.Omega.{arith}
 use Rattle.basis.specs.Dialect.{mode_of}
 use Rattle.basis.specs.declared.Edition.{Edition}
@@ -22,8 +22,7 @@ use Rattle.mcache.specs.State.{dropped, message_size, ring_of}
 use Rattle.mcache.specs.Calls.{index_in, entered_store, stored_under}
 use Rattle.mcache.specs.Readers.{room-keeps-all}
 use Rattle.node.specs.declared.Node.{Node}
-use Rattle.node.specs.declared.Admit.TheVariants as answer
-use Rattle.node.specs.declared.Beat.TheVariants as beat
+use Rattle.node.specs.declared.Novelty.TheVariants as novelty
 use Rattle.node.specs.Gateway.{Gateway, started, form_of, is_new, after_admit, after_beat}
 use Rattle.node.specs.State.{rises_from}
 use Rattle.node.specs.Calls.{taken, held_at, admit_cache, beat_answer}
@@ -42,10 +41,10 @@ use Rattle.agreement.specs.Holding.{with_got, got_by, got_next, got_all, Holds, 
 use Rattle.agreement.specs.Holding.{past_all}
 
 -- ---- a call that brings nothing, and one that brings a message of the set, are members
-pub member-none : (flags : ℕ) (set : List (List ℕ)) (c : Call) → brought flags c ≡ none → MemberAt flags set c
+pub member-none : (flags : ℕ) (set : List (List ℕ)) (c : Call) → brought flags c ≡ None → MemberAt flags set c
 member-none flags set c e m t = clash (let q = sym e ∙ (brings_that flags m c).0 t in cc)
 
-pub member-some : (flags : ℕ) (set : List (List ℕ)) (c : Call) (m : List ℕ) → brought flags c ≡ some m
+pub member-some : (flags : ℕ) (set : List (List ℕ)) (c : Call) (m : List ℕ) → brought flags c ≡ Some m
     → among m set ≡ true → MemberAt flags set c
 member-some flags set c m e inside k t =
     let q = sym e ∙ (brings_that flags k c).0 t in
@@ -272,7 +271,7 @@ module _ {set : List (List ℕ)} {x : Settings} {first past : ℕ} {got : List (
   pub admit-forward : s.node.clock ≤ at
   admit-forward = rw (← node-clock s) admit-reads.forward
 
-  module _ (ms : MessageSet x.flags set) (m : List ℕ) (e : brought x.flags (admit ed body i word at) ≡ some m)
+  module _ (ms : MessageSet x.flags set) (m : List ℕ) (e : brought x.flags (admit ed body i word at) ≡ Some m)
       (inside : among m set ≡ true) where
     -- the message passes admission
     abbrev id : List ℕ
@@ -295,7 +294,7 @@ module _ {set : List (List ℕ)} {x : Settings} {first past : ℕ} {got : List (
         ∙ not-not (among m got)
 
     -- ---- a message of the set that comes in is answered duplicate where it was got before, and else new
-    pub admit-answers : answer_in s ed body i word at ≡ cond (among m got) answer.Duplicate answer.New
+    pub admit-answers : answer_in s ed body i word at ≡ cond (among m got) (Ok novelty.Duplicate) (Ok novelty.New)
     admit-answers = rw (admit-takes, admit-held)
 
     pub admit-done : refusal_at s (admit ed body i word at) ≡ 0
@@ -322,12 +321,12 @@ module _ {set : List (List ℕ)} {x : Settings} {first past : ℕ} {got : List (
   module _ (ms : MessageSet x.flags set) (inside : MemberAt x.flags set (admit ed body i word at)) where
     by-brought : (o : Option (List ℕ)) → brought x.flags (admit ed body i word at) ≡ o
         → Holding set x first past rs left (got_by got o) (after (admit ed body i word at) s)
-    by-brought none e =
+    by-brought None e =
         let p = unbrought_plan s x.flags h.held.flags ed body i word at e in
         subst (λ (t : State). Holding set x first past rs left got t)
         (sym (admit-none s ed body i word at p.0 p.1))
         (record { kept = h.kept; held = h.held; bytes = h.bytes; ahead = reads_kept admit-reads })
-    by-brought (some m) e = admit-holding ms m e (inside m ((brings_that x.flags m (admit ed body i word at)).1 e))
+    by-brought (Some m) e = admit-holding ms m e (inside m ((brings_that x.flags m (admit ed body i word at)).1 e))
 
     pub holding-admit : Holding set x first past rs left (got_next x.flags got (admit ed body i word at))
         (after (admit ed body i word at) s)
@@ -353,7 +352,7 @@ module _ {set : List (List ℕ)} {x : Settings} {first past : ℕ} {got : List (
   beat-forward = rw (← node-clock s) beat-reads.forward
 
   -- it is done
-  pub beat-answers : beat_answer s.node s.ids s.messages at ≡ beat.Done
+  pub beat-answers : beat_answer s.node s.ids s.messages at ≡ Ok tt
   beat-answers = beat-says s.node s.ids s.messages at h.kept.fine beat-forward
 
   beat-bytes : Bytes (after (heartbeat at) s).messages

@@ -1,6 +1,6 @@
 -- The ids that are asked for are those of the messages that the asker lacks, each once; and of each the teller has the
 -- message.
-use Rattle.std.specs.Prelude.{ℕ, ◌≤◌, ◌<◌, ◌≡◌, refl, true, false, not, ◌&&◌, length}
+use Rattle.std.specs.Prelude.{Ok, ℕ, ◌≤◌, ◌<◌, ◌≡◌, refl, true, false, not, ◌&&◌, length}
 use Rattle.std.proofs.Math.Path.{sym, ap}
 use Rattle.std.proofs.Common.{◌∙◌, ⊎_elim, arith, lt-ltb}
 use Rattle.std.proofs.Math.Bool.{or-true, and-true, and-false}
@@ -17,7 +17,6 @@ use Rattle.mcache.specs.Messages.{Cached, topics, ids_of, held, get, carrying, g
 use Rattle.mcache.specs.StateLaws.{fine-tests}
 use Rattle.mcache.specs.CachedLaws.{ids-cached}
 use Rattle.mcache.specs.GossipLaws.{among-order, told-distinct, told-held}
-use Rattle.node.specs.declared.Lent.TheVariants as lent
 use Rattle.node.specs.Gateway.{Gateway, told_of, knows, lacking}
 use Rattle.node.specs.State.{gateway_in}
 use Rattle.node.specs.Calls.{lent_of}
@@ -107,7 +106,7 @@ missing-distinct mode topic g (c ∷ cs) d =
 module _ {set : List (List ℕ)} {y : Settings} {first past left : ℕ} {rs : List ℕ} {got : List (List ℕ)} {b : State}
     (h : Holding set y first past rs left got b)
     (topic : List ℕ) (windows : ℕ) (wide : y.history_len ≤ windows) where
-  pub fine : lent_of b.node b.ids b.messages ≡ lent.Fine
+  pub fine : lent_of b.node b.ids b.messages ≡ Ok tt
   fine = h.kept.fine
 
   -- all windows are told of

@@ -3,7 +3,7 @@
 -- premises hold is to be seen from the figures, and is not stated. 65,536 bytes are more than a reply needs: 61,485 are
 -- enough for fifteen messages.
 use Prim.Native.Nat.{ℕ, zero, suc, ◌-◌, ◌^◌, ◌≤◌, ◌<◌, min}
-use Rattle.std.specs.Prelude.{◌≡◌, Bool, false, length, get_or, replicate}
+use Rattle.std.specs.Prelude.{Result, Ok, Err, ◌≡◌, Bool, false, length, get_or, replicate}
 use Rattle.std.proofs.Math.Path.{refl, ap, ap₂}
 use Rattle.std.proofs.Common.{◌∙◌, arith, lt-ltb, le-ltb}
 use Rattle.std.proofs.Math.Bool.{true}
@@ -14,6 +14,7 @@ use Rattle.basis.specs.declared.Mode.{Mode}
 use Rattle.basis.specs.declared.Mode.TheVariants.{Plain, Groups}
 use Rattle.basis.specs.declared.Edition.{Edition}
 use Rattle.basis.specs.declared.Edition.TheVariants.{V11, V12}
+use Rattle.basis.specs.declared.Fault.{Fault}
 use Rattle.basis.specs.Dialect.{mode_of, spoken}
 use Rattle.basis.specs.Cases.{either}
 use Rattle.basis.specs.Writing.{answer}
@@ -26,41 +27,36 @@ use Rattle.protobuf.specs.Field.{read_tag, read_len, read_varint, skip_fixed, sk
 use Rattle.protobuf.specs.Field.{skip_field, read_value, read_field}
 use Rattle.protobuf.specs.Walk.{walk_from, walk_at, between}
 use Rattle.protobuf.specs.Encode.{tag, bytes_field}
-use Rattle.protobuf.specs.declared.Checked.TheVariants as checked
 use Rattle.utf8.specs.Utf8.{is_utf8, run}
 use Rattle.schema.specs.Schema.{role_of, rank, own_of}
 use Rattle.schema.specs.Kinds.{to_depth, over_kinds}
 use Rattle.schema.specs.Count.{text_count, counted}
 use Rattle.schema.specs.Slots.{set_place, with_field, slots_of}
-use Rattle.ids.specs.declared.MessageAt.TheVariants as found
 use Rattle.schema.specs.declared.Kind.TheVariants as kind
 use Rattle.schema.specs.Spots.{spot_in}
 use Rattle.schema.specs.Accept.{body_records, accept_of}
 use Rattle.ids.specs.Ids.{message_at, id_parts}
 use Rattle.admission.specs.declared.Unfit.{Unfit}
 use Rattle.admission.specs.declared.Unfit.TheVariants.{MissingSignature, NotPeerId}
-use Rattle.admission.specs.declared.Admission.TheVariants as admission
 use Rattle.admission.specs.Flags.{allows_unsigned}
-use Rattle.admission.specs.Admission.{topics_of, first_long, on_limits, is_key, key_inside, is_peer_id, admission_of, is_signed}
+use Rattle.admission.specs.Admission.{topics_of, first_long, on_limits, is_key, key_inside, is_peer_id, admission_of}
+use Rattle.admission.specs.Admission.{is_signed}
 use Rattle.admission.specs.Admission.{vouched, gives_id}
 use Rattle.admission.specs.AdmissionLaws.{vouched-same}
 use Rattle.admission.specs.Told.{unfit_told}
 use Rattle.rows.specs.Ids.{same_bytes, among}
 use Rattle.rows.specs.Rows.{newest}
+use Rattle.node.specs.declared.AdmitError.TheVariants as admit-error
+use Rattle.node.specs.declared.AdvertiseError.TheVariants as advertise-error
+use Rattle.node.specs.declared.AskError.TheVariants as ask-error
+use Rattle.node.specs.declared.BeatError.TheVariants as beat-error
+use Rattle.node.specs.declared.ServeError.TheVariants as serve-error
 use Rattle.node.specs.Parts.{at_path, once_after, without, fitting}
 use Rattle.node.specs.PartsLaws.{fitting-stop}
 use Rattle.seen.specs.Entries.{holds, until, inserted, live}
 use Rattle.mcache.specs.declared.MessageCache.{MessageCache}
 use Rattle.mcache.specs.Messages.{held, put, shift, get, carrying, enter_id, in_order, gossip_ids}
 use Rattle.node.specs.declared.Node.{Node}
-use Rattle.node.specs.declared.Fault.{Fault}
-use Rattle.node.specs.declared.Lent.{Lent}
-use Rattle.node.specs.declared.Lent.TheVariants as lent
-use Rattle.node.specs.declared.Admit.TheVariants as answered
-use Rattle.node.specs.declared.Beat.TheVariants as beat
-use Rattle.node.specs.declared.Advertise.TheVariants as told
-use Rattle.node.specs.declared.Ask.TheVariants as asked
-use Rattle.node.specs.declared.Serve.TheVariants as served
 use Rattle.node.specs.Gateway.{Gateway, started, marked, is_new, after_admit, after_beat, told_of, knows, lacking, having}
 use Rattle.node.specs.State.{gateway_in, rises_from}
 use Rattle.node.specs.Calls.{on_lent, lent_of, planned, no, admit_answer, beat_answer, advertise_bytes, advertise_answer}
@@ -68,12 +64,14 @@ use Rattle.node.specs.Calls.{ask_bytes, ask_answer}
 use Rattle.node.specs.Calls.{wanted, unwanted_in, remaining, rows_for, cached_of, room_of, served_of, reply_to, serve_number}
 use Rattle.node.specs.Calls.{serve_answer}
 use Rattle.history.specs.History.{State, gateway_of, Settings, Call, admit, heartbeat, advertise, ask, serve}
-use Rattle.history.specs.History.{explain, plan_in, after, after_all, refusal_at, brought, brings, is_new as newAnswer, times}
+use Rattle.history.specs.History.{explain, plan_in, after, after_all, refusal_at, brought, brings}
+use Rattle.history.specs.History.{is_new as newAnswer, times}
 use Rattle.history.specs.History.{times_new, admits}
 use Rattle.history.specs.Laws.{started_by}
 use Rattle.history.proofs.Laws.{after-append, history_keeps, fresh-starts, refused-stays, after-flags, history_flags}
 use Rattle.history.proofs.Laws.{brings-exactly, fresh_keeps, fresh-flags}
 use Rattle.history.specs.Samples.{signature, message, unsigned, id_of, unsigned_body, message-carried}
+use Rattle.outputs.specs.Replied.{wrote}
 use Rattle.agreement.specs.Round.{missing, lacked, Play, onward, Fair, fair-onward, reply_of}
 use Rattle.agreement.specs.Round.{served_count, asker_round, teller_round, asker_rounds}
 use Rattle.agreement.specs.Holding.{Holding}
@@ -164,30 +162,30 @@ needs_ids-differ = record { differ = refl; one-id = refl; same_id = refl; not_ne
 -- ---- every one passes admission
 -- the same sender, seqno 1, topic `t`, and no signature, where none is allowed; and a body with it
 unsigned-unfit : (flags : ℕ) → allows_unsigned flags ≡ false
-    → admission_of flags (unsigned 1) true ≡ admission.Unfit MissingSignature
+    → admission_of flags (unsigned 1) true ≡ Err MissingSignature
 unfolding unsigned admission_of id_parts slots_of with_field set_place walk_at walk_from read_field read_value skip_field
     skip_fixed read_varint read_len read_tag read_uvarint read_from group_of role_of is_peer_id from_bytes hash_of
 unsigned-unfit flags off = rw off
 
 -- a message that does not pass under some flags is answered new in no state of a gateway with these
-module _ (flags : ℕ) (m : List ℕ) (why : Unfit) (u : admission_of flags m true ≡ admission.Unfit why) where
+module _ (flags : ℕ) (m : List ℕ) (why : Unfit) (u : admission_of flags m true ≡ Err why) where
   unfit_plan : (s : State) → (gateway_of s).flags ≡ flags → (ed : Edition) (body : List ℕ) (i : ℕ) (word : Bool) (at : ℕ)
       → brings flags m (admit ed body i word at) ≡ true
-      → plan_in s ed body i word at ≡ on_lent (λ (f : Fault). no (answered.Faulty f))
-      (lent_of s.node s.ids s.messages) (no (answered.Unfit why))
+      → plan_in s ed body i word at ≡ on_lent (λ (f : Fault). no (Err (admit-error.Faulty f)))
+      (lent_of s.node s.ids s.messages) (no (Err (admit-error.Unfit why)))
   unfolding planned gateway_in
   unfit_plan s same ed body i word at t =
       let p = (brings-exactly flags m ed body i word at).0 t in
       let q = p.2 in
-      let e : admission_of s.node.cache.flags m word ≡ admission.Unfit why =
+      let e : admission_of s.node.cache.flags m word ≡ Err why =
       ap (λ (f : ℕ). admission_of f m word) same ∙ vouched-same flags m word p.0 ∙ u in
       let k : mode_of s.node.cache.flags ≡ mode_of flags = ap mode_of same in
       rw (k, p.1, k, q.found, q.bytes, e)
 
-  not_new : (s : State) (at : ℕ) (l : Lent) → newAnswer (admit_answer s.node s.ids at
-      (on_lent (λ (f : Fault). no (answered.Faulty f)) l (no (answered.Unfit why)))) ≡ 0
-  not_new s at lent.Fine = refl
-  not_new s at (lent.Faulty f) = refl
+  not_new : (s : State) (at : ℕ) (l : Result (Unit {0}) Fault) → newAnswer (admit_answer s.node s.ids at
+      (on_lent (λ (f : Fault). no (Err (admit-error.Faulty f))) l (no (Err (admit-error.Unfit why))))) ≡ 0
+  not_new s at (Ok tt) = refl
+  not_new s at (Err f) = refl
 
   never-new : (calls : List Call) (s : State) → (gateway_of s).flags ≡ flags → times_new flags m calls s ≡ 0
   unfolding times
@@ -209,7 +207,7 @@ module _ (flags : ℕ) (m : List ℕ) (why : Unfit) (u : admission_of flags m tr
   never-new (explain id name windows ∷ cs) s same =
       let c = explain id name windows in rw (never-new cs (after c s) (after-flags c s ∙ same))
 
-unanswered : (flags : ℕ) (m body : List ℕ) (why : Unfit) → admission_of flags m true ≡ admission.Unfit why
+unanswered : (flags : ℕ) (m body : List ℕ) (why : Unfit) → admission_of flags m true ≡ Err why
     → ((ed : Edition) (at : ℕ) → brings flags m (admit ed body 0 true at) ≡ true)
     → Unanswered flags (unfit_told why).number m body
 unanswered flags m body why u b =
@@ -234,7 +232,7 @@ needs_admissible flags off =
     unanswered flags (unsigned 1) (unsigned_body 1) MissingSignature (unsigned-unfit flags off) (unsigned-brought flags)
 
 -- the same of a host's name, `gate`, as the sender of a message that is else as the others are, by 34, under all flags
-stranger-unfit : (flags : ℕ) → admission_of flags stranger true ≡ admission.Unfit NotPeerId
+stranger-unfit : (flags : ℕ) → admission_of flags stranger true ≡ Err NotPeerId
 unfolding signature admission_of id_parts slots_of with_field set_place walk_at walk_from read_field read_value skip_field
     skip_fixed read_varint read_len read_tag read_uvarint read_from group_of role_of is_peer_id from_bytes hash_of
 stranger-unfit flags = refl
@@ -414,7 +412,7 @@ two-groups = refl
 
 -- type 3, after the tag at 46 in the message
 plain-refuses : (ed : Edition) → accept_of (spoken Plain ed) grouped-body
-    ≡ checked.Refused (standing (spot_in Plain (kind.Rpc ed) grouped-body) (UnsupportedWireType 3 47))
+    ≡ Err (standing (spot_in Plain (kind.Rpc ed) grouped-body) (UnsupportedWireType 3 47))
 unfolding signature grouped grouped-body accept_of body_records counted over_kinds to_depth text_count role_of rank own_of
     is_utf8 run walk_at walk_from read_field read_value skip_field skip_value skip_fixed read_varint read_len read_tag read_uvarint
     read_from group_of
@@ -477,7 +475,7 @@ needs_undisturbed = record { lacks = refl; asks = refl }
 -- ---- no second body is lent in a round
 -- a round as those of Round, but for the second body that its serve is lent
 module _ (p : Play) (second : List ℕ) (a b : State) where
-  withheld : length (lacked p.topic a b) ≡ 1 → reply_with p second a b ≡ served.Reply 0 0 0 → Withheld p second a b
+  withheld : length (lacked p.topic a b) ≡ 1 → reply_with p second a b ≡ wrote 0 0 0 → Withheld p second a b
   unfolding admits after_all after
   withheld one none = record { lacks = one; answers = none; still = λ at. rw none }
 
@@ -491,7 +489,7 @@ abbrev wanted_body : List ℕ
 wanted_body = 26 ∷ 43 ∷ 18 ∷ 41 ∷ 10 ∷ 39 ∷ second-id
 
 bodies-taken : (mode : Mode)
-    → (accept_of (spoken mode V11) wanted_body ≡ checked.Fine) × (accept_of (spoken mode V12) unwanted_body ≡ checked.Fine)
+    → (accept_of (spoken mode V11) wanted_body ≡ Ok tt) × (accept_of (spoken mode V12) unwanted_body ≡ Ok tt)
 unfolding accept_of body_records counted over_kinds to_depth text_count role_of rank own_of is_utf8 run walk_at walk_from
     read_field read_value skip_field skip_fixed read_varint read_len read_tag read_uvarint read_from group_of
 bodies-taken mode = (refl, refl)
@@ -505,7 +503,7 @@ none-cached : (c : MessageCache) (st : List ℕ) → cached_of c st [] ≡ []
 unfolding cached_of rows_for
 none-cached c st = refl
 
-none-served : reply_with play unwanted_body lacking-a holding-it ≡ served.Reply 0 0 0
+none-served : reply_with play unwanted_body lacking-a holding-it ≡ wrote 0 0 0
 unfolding serve_answer
 none-served =
     let mode = mode_of holding-it.node.cache.flags in
@@ -524,35 +522,35 @@ needs_no-idontwant = withheld play unwanted_body lacking-a holding-it (ap length
 -- ---- the clock never falls
 -- a message that would be taken, and a heartbeat, are refused by 31 at a reading before the clock
 pub needs_rises : (n : Node) (ss cs : List ℕ) (ed : Edition) (body : List ℕ) (i at a e x y z w : ℕ)
-    → lent_of n ss cs ≡ lent.Fine → accept_of (spoken (mode_of n.cache.flags) ed) body ≡ checked.Fine
-    → message_at (mode_of n.cache.flags) body i ≡ found.At a e
-    → admission_of n.cache.flags (between body a e) true ≡ admission.Fit x y z w → at < n.clock
-    → (planned n ss cs ed body i true at ≡ no (answered.ClockBack n.clock))
-    × (beat_answer n ss cs at ≡ beat.ClockBack n.clock)
+    → lent_of n ss cs ≡ Ok tt → accept_of (spoken (mode_of n.cache.flags) ed) body ≡ Ok tt
+    → message_at (mode_of n.cache.flags) body i ≡ Ok (a, e)
+    → admission_of n.cache.flags (between body a e) true ≡ Ok ((x, y), (z, w)) → at < n.clock
+    → (planned n ss cs ed body i true at ≡ no (Err (admit-error.ClockBack n.clock)))
+    × (beat_answer n ss cs at ≡ Err (beat-error.ClockBack n.clock))
 unfolding planned beat_answer
 needs_rises n ss cs ed body i at a e x y z w fine ok there fit h = let t = lt-ltb at n.clock h in
     (rw (fine, ok, there, fit, t), rw (fine, t))
 
 -- ---- the topic has at most 1,024 bytes
 -- else the advertise is refused by 29
-pub needs_topic-short : (n : Node) (ss cs out long : List ℕ) (windows : ℕ) → lent_of n ss cs ≡ lent.Fine
+pub needs_topic-short : (n : Node) (ss cs out long : List ℕ) (windows : ℕ) → lent_of n ss cs ≡ Ok tt
     → 1024 < length long
-    → advertise_answer n ss cs long windows out ≡ told.TopicTooLong (length long)
+    → advertise_answer n ss cs long windows out ≡ Err (advertise-error.TopicTooLong (length long))
 unfolding advertise_answer
 needs_topic-short n ss cs out long windows fine h = rw (fine, lt-ltb 1024 (length long) h)
 
 -- ---- output buffers hold 65,536 bytes
 -- an advertisement and a request that do not fit are refused by 12
-pub needs_advert-room : (n : Node) (ss cs out topic : List ℕ) (windows : ℕ) → lent_of n ss cs ≡ lent.Fine
+pub needs_advert-room : (n : Node) (ss cs out topic : List ℕ) (windows : ℕ) → lent_of n ss cs ≡ Ok tt
     → length topic ≤ 1024 → length out < length (advertise_bytes n cs topic windows)
-    → advertise_answer n ss cs topic windows out ≡ told.Room (length (advertise_bytes n cs topic windows))
+    → advertise_answer n ss cs topic windows out ≡ Err (advertise-error.Room (length (advertise_bytes n cs topic windows)))
 unfolding advertise_answer answer
 needs_advert-room n ss cs out topic windows fine short h =
     rw (fine, le-ltb 1024 (length topic) short, lt-leb (length (advertise_bytes n cs topic windows)) (length out) h)
 
-pub needs_request-room : (n : Node) (ss cs out : List ℕ) (ed : Edition) (body : List ℕ) → lent_of n ss cs ≡ lent.Fine
-    → accept_of (spoken (mode_of n.cache.flags) ed) body ≡ checked.Fine → length out < length (ask_bytes n ss body)
-    → ask_answer n ss cs ed body out ≡ asked.Room (length (ask_bytes n ss body))
+pub needs_request-room : (n : Node) (ss cs out : List ℕ) (ed : Edition) (body : List ℕ) → lent_of n ss cs ≡ Ok tt
+    → accept_of (spoken (mode_of n.cache.flags) ed) body ≡ Ok tt → length out < length (ask_bytes n ss body)
+    → ask_answer n ss cs ed body out ≡ Err (ask-error.Room (length (ask_bytes n ss body)))
 unfolding ask_answer answer
 needs_request-room n ss cs out ed body fine ok h = rw (fine, ok, lt-leb (length (ask_bytes n ss body)) (length out) h)
 
@@ -574,7 +572,7 @@ needs_reply_room = fourteen_zeros 15 4096 refl refl
 
 -- with 4,098 bytes the first of the longest does not fit, and the serve is refused by 12
 pub needs_reply_room-first : (m : List ℕ) (ms : List (List ℕ)) (out : List ℕ) → length m ≡ 4096 → length out ≡ 4098
-    → (reply_to (m ∷ ms) out ≡ served.Room 4099) × (serve_number (reply_to (m ∷ ms) out) ≡ 12)
+    → (reply_to (m ∷ ms) out ≡ Err (serve-error.Room 4099)) × (serve_number (reply_to (m ∷ ms) out) ≡ 12)
 unfolding served_of room_of
 needs_reply_room-first m ms out h k =
     let r : min (length out) 65536 ≡ 4098 = omega arith in

@@ -1,11 +1,10 @@
 -- Under the premises a message that is delivered is got: it is answered new the first time that it comes in, duplicate
 -- every other time, and never refused.
-use Rattle.std.specs.Prelude.{ℕ, ◌+◌, ◌≤◌, ◌≡◌, Bool, true, false, cond, ◌||◌, leb}
+use Rattle.std.specs.Prelude.{Option, Some, None, ℕ, ◌+◌, ◌≤◌, ◌≡◌, Bool, true, false, cond, ◌||◌, leb}
 use Rattle.std.proofs.Math.Path.{refl, ap}
 use Rattle.std.proofs.Common.{sym, subst, ◌∙◌, le-leb}
 use Rattle.std.proofs.Math.Bool.{or-true, or-false}
 use mathlib.Core.List.{List, [], ◌∷◌, ◌++◌}
-use Rattle.std.proofs.Math.Option.{Option, none, some}
 use native.Mathlib.Omega.{arith}
 use Rattle.std.proofs.lemmas.Bool.{lt-leb}
 use Rattle.basis.specs.declared.Edition.{Edition}
@@ -21,7 +20,7 @@ use Rattle.agreement.specs.Holding.{with_got, got_by, got_next, got_all, Holding
 use Rattle.agreement.proofs.Holding.{admit-answers, admit-done}
 use Rattle.agreement.specs.Holding.{past_all, past_next}
 use Rattle.agreement.proofs.Holding.{holding-start, holding-next, members-here, members-rest, holding_on}
-use Rattle.agreement.specs.Once.{One, not-this, first_time, once_more, Some, Delivered}
+use Rattle.agreement.specs.Once.{One, not-this, first_time, once_more, Several, Delivered}
 
 -- ---- a message among those got, and one more got
 pub with-again : (m p : List ℕ) (got : List (List ℕ)) → among m got ≡ true → among m (with_got p got) ≡ true
@@ -40,13 +39,13 @@ with_other m p got h d = either (among p got) (λ t. rw t h) (λ t. rw (t, among
 module _ (m : List ℕ) (got : List (List ℕ)) where
   -- what comes in is among those got
   next_that : (o : Option (List ℕ)) → is_that m o ≡ true → among m (got_by got o) ≡ true
-  next_that none h = clash (cc)
-  next_that (some k) h = rw (same_equal k m h) (with-this m got)
+  next_that None h = clash (cc)
+  next_that (Some k) h = rw (same_equal k m h) (with-this m got)
 
   -- and nothing else changes
   next-same : (o : Option (List ℕ)) → is_that m o ≡ false → among m (got_by got o) ≡ among m got
-  next-same none h = refl
-  next-same (some k) h =
+  next-same None h = refl
+  next-same (Some k) h =
       either (among m got) (λ t. with-again m k got t ∙ sym t) (λ t. with_other m k got t h ∙ sym t)
 
 -- the messages got are those that some call brings
@@ -73,7 +72,8 @@ unfolding among
 got-exactly flags m calls = got-from flags m calls []
 
 -- ---- some calls
-one_more_lem : {a b c d e f : ℕ} {was now : Bool} → One a b c was now → Some d e f now → Some (a + d) (b + e) (c + f) was
+one_more_lem : {a b c d e f : ℕ} {was now : Bool} → One a b c was now → Several d e f now
+    → Several (a + d) (b + e) (c + f) was
 one_more_lem {a} {b} {c} {d} {e} {f} (not-this p q r t) s =
     let z = s.answered in
     record {
@@ -122,7 +122,7 @@ module _ {set : List (List ℕ)} {x : Settings} (ms : MessageSet x.flags set) (m
 
   some-calls : {first past : ℕ} {got : List (List ℕ)} {s : State} (calls : List Call)
       → Holding set x first past (readings calls) (beats calls) got s → Members x.flags set calls
-      → Some (times_got x.flags m calls) (times_new x.flags m calls s) (times_duplicate x.flags m calls s)
+      → Several (times_got x.flags m calls) (times_new x.flags m calls s) (times_duplicate x.flags m calls s)
       (among m got)
   unfolding times_got times readings beats
   some-calls [] h ins =

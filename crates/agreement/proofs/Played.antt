@@ -2,7 +2,7 @@
 -- advertisement, the request and the reply are those of the definitions; and the reply has fifteen messages, or all
 -- that are asked for.
 use Prim.Native.Nat.{ℕ, zero, suc, ◌≤◌, ◌<◌, min}
-use Rattle.std.specs.Prelude.{◌≡◌, refl, true, length, get_or}
+use Rattle.std.specs.Prelude.{Ok, ◌≡◌, refl, true, length, get_or}
 use Rattle.std.proofs.Common.{sym, ◌∙◌}
 use Rattle.std.proofs.Math.Path.{ap, subst}
 use mathlib.Core.List.{List, [], ◌∷◌, append-nil}
@@ -15,7 +15,6 @@ use Rattle.basis.specs.Cases.{either}
 use Rattle.basis.specs.Lists.{answer-fits, written-fits}
 use Rattle.rows.specs.Ids.{same_bytes, among}
 use Rattle.rows.specs.IdsLaws.{same_self, among-at}
-use Rattle.protobuf.specs.declared.Checked.TheVariants as checked
 use Rattle.protobuf.specs.Encode.{bytes_field}
 use Rattle.schema.specs.Accept.{accept_of}
 use Rattle.schema.specs.AcceptLaws.{empty-taken}
@@ -24,9 +23,6 @@ use Rattle.node.specs.Parts.{fitting}
 use Rattle.node.specs.PartsLaws.{fitting-room, fitting-le}
 use Rattle.mcache.specs.Messages.{held, get}
 use Rattle.mcache.specs.GossipLaws.{told-held}
-use Rattle.node.specs.declared.Lent.TheVariants as lent
-use Rattle.node.specs.declared.Advertise.TheVariants as told
-use Rattle.node.specs.declared.Ask.TheVariants as asked
 use Rattle.node.specs.Gateway.{Gateway, told_of, lacking, having, max_rpc_size}
 use Rattle.node.specs.State.{gateway_in}
 use Rattle.node.specs.Calls.{lent_of, advertise_answer, advertise_left, advertise_bytes, ask_answer, ask_left, ask_bytes}
@@ -92,7 +88,7 @@ module _ {set : List (List ℕ)} {y : Settings} {firstB pastB left_b : ℕ} {rsB
       (spoken (mode_of y.flags) V11)).small in
       omega arith
 
-  advertise_answer_lem : advertise_answer b.node b.ids b.messages topic windows out ≡ told.Bytes (length adverted)
+  advertise_answer_lem : advertise_answer b.node b.ids b.messages topic windows out ≡ Ok (length adverted)
   unfolding advertise_answer
   advertise_answer_lem = rw (hb.kept.fine, le-ltb 1024 (length topic) short, answer-fits adverted out adverted-small)
 
@@ -111,10 +107,10 @@ module _ {set : List (List ℕ)} {x y : Settings} {firstA pastA leftA firstB pas
     {gotA gotB : List (List ℕ)} {a b : State}
     (ha : Holding set x firstA pastA rsA leftA gotA a) (hb : Holding set y firstB pastB rsB left_b gotB b) (p : Play)
     (fair : Fair p x y) where
-  abbrev fine_a : lent_of a.node a.ids a.messages ≡ lent.Fine
+  abbrev fine_a : lent_of a.node a.ids a.messages ≡ Ok tt
   fine_a = fine ha p.topic p.windows fair.windows-x
 
-  abbrev fine_b : lent_of b.node b.ids b.messages ≡ lent.Fine
+  abbrev fine_b : lent_of b.node b.ids b.messages ≡ Ok tt
   fine_b = fine hb p.topic p.windows fair.windows_y
 
   -- ---- the advertisement
@@ -139,12 +135,12 @@ module _ {set : List (List ℕ)} {x y : Settings} {firstA pastA leftA firstB pas
       let r = fair.request-room 0 in
       omega arith
 
-  advert-accepted : accept_of (spoken (mode_of a.node.cache.flags) (p.ask_edition 0)) advert ≡ checked.Fine
+  advert-accepted : accept_of (spoken (mode_of a.node.cache.flags) (p.ask_edition 0)) advert ≡ Ok tt
   advert-accepted = advert-taken b.node b.ids b.messages p.topic p.windows fine_b hb.bytes
       fair.topic-short (spoken (mode_of a.node.cache.flags) (p.ask_edition 0))
 
   request-answer : ask_answer a.node a.ids a.messages (p.ask_edition 0) advert (p.request_out 0)
-      ≡ asked.Bytes (length asking)
+      ≡ Ok (length asking)
   unfolding ask_answer
   request-answer = rw (fine_a, advert-accepted, answer-fits asking (p.request_out 0) asking-small)
 
@@ -213,12 +209,12 @@ module _ {set : List (List ℕ)} {x y : Settings} {firstA pastA leftA firstB pas
   reply-cached = reply-has b.node b.ids b.messages p.topic p.windows fine_b hb.bytes
       fair.topic-short a.node a.ids a.messages
 
-  request-accepted : accept_of (spoken (mode_of b.node.cache.flags) (p.serve_edition 0)) asking ≡ checked.Fine
+  request-accepted : accept_of (spoken (mode_of b.node.cache.flags) (p.serve_edition 0)) asking ≡ Ok tt
   request-accepted = (request-taken b.node b.ids b.messages p.topic p.windows fine_b hb.bytes
       fair.topic-short a.node a.ids a.messages).0
       (spoken (mode_of b.node.cache.flags) (p.serve_edition 0))
 
-  no_second : accept_of (spoken (mode_of b.node.cache.flags) V12) [] ≡ checked.Fine
+  no_second : accept_of (spoken (mode_of b.node.cache.flags) V12) [] ≡ Ok tt
   no_second = empty-taken (spoken (mode_of b.node.cache.flags) V12)
 
   reply_answer_lem : reply_answer p a b ≡ reply_to replies (p.reply_out 0)

@@ -1,6 +1,6 @@
 -- A round's request, of node a that is given the advertisement of node b: in every dialect it is taken and names
 -- exactly those of the ids that b tells of and a does not hold, each once; and b has every message that is asked for.
-use Rattle.std.specs.Prelude.{ℕ, suc, ◌≤◌, ◌≡◌, refl, true, false, not, ◌↔◌, length}
+use Rattle.std.specs.Prelude.{Ok, ℕ, suc, ◌≤◌, ◌≡◌, refl, true, false, not, ◌↔◌, length}
 use Rattle.std.proofs.Math.Path.{sym, ap, subst}
 use Rattle.std.proofs.Common.{◌∙◌, arith, length-append}
 use mathlib.Core.List.{List, [], ◌∷◌, ◌++◌, append-nil}
@@ -12,7 +12,6 @@ use Rattle.basis.specs.Cases.{either, clash, both}
 use Rattle.basis.specs.Bytes.{Bytes}
 use Rattle.rows.specs.Ids.{same_bytes, among, distinct}
 use Rattle.rows.specs.IdsLaws.{same_self}
-use Rattle.protobuf.specs.declared.Checked.TheVariants.{Fine}
 use Rattle.protobuf.specs.Encode.{bytes_field}
 use Rattle.protobuf.specs.EncodeLaws.{tag_one, bytes_field-length, heads_same}
 use Rattle.rpc.specs.Rpc.{Rpc}
@@ -25,7 +24,6 @@ use Rattle.mcache.specs.GossipLaws.{told-distinct, told-held}
 use Rattle.node.specs.Parts.{once}
 use Rattle.node.specs.PartsLaws.{once-same}
 use Rattle.node.specs.declared.Node.{Node}
-use Rattle.node.specs.declared.Lent.TheVariants as lent
 use Rattle.node.specs.Gateway.{Gateway, told_of, knows, lacking, having, advertisement, request}
 use Rattle.node.specs.State.{gateway_in}
 use Rattle.node.specs.Calls.{lent_of, bytes_for, advertise_bytes, offered, unseen_of, ask_bytes, wanted, remaining, cached_of}
@@ -124,7 +122,7 @@ having-all g (i ∷ is) h =
     simp k (ap suc r)
 
 -- ---- the request of node a, given the advertisement of node b
-module _ (b : Node) (bs bc topic : List ℕ) (windows : ℕ) (fine : lent_of b bs bc ≡ lent.Fine) (bytes : Bytes bc)
+module _ (b : Node) (bs bc topic : List ℕ) (windows : ℕ) (fine : lent_of b bs bc ≡ Ok tt) (bytes : Bytes bc)
     (short : length topic ≤ 1024) where
   module _ (a : Node) («as» ac : List ℕ) where
     abbrev asked : List (List ℕ)
@@ -193,7 +191,7 @@ module _ (b : Node) (bs bc topic : List ℕ) (windows : ℕ) (fine : lent_of b b
         (λ there. (request asked, request-meant there, append-nil asked))
 
     -- the request is taken, and it wants what is lacking, whatever the reader's mode
-    pub request-taken : ((d : Dialect) → accept_of d (ask_bytes a «as» (advertise_bytes b bc topic windows)) ≡ Fine)
+    pub request-taken : ((d : Dialect) → accept_of d (ask_bytes a «as» (advertise_bytes b bc topic windows)) ≡ Ok tt)
         × ((mode : Mode) → wanted mode (ask_bytes a «as» (advertise_bytes b bc topic windows))
         ≡ lacking (gateway_in a «as» ac)
         (told_of topic windows (gateway_in b bs bc)))

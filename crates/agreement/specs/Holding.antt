@@ -1,8 +1,7 @@
 -- What a gateway holds in a history under the premises: the messages got, each once, the oldest first. Their marked ids
 -- are the ids seen, they are the messages cached, and nothing ever leaves.
-use Rattle.std.specs.Prelude.{ℕ, suc, ◌+◌, ◌≤◌, ◌<◌, ◌≡◌, cond, List, [], ◌∷◌, ◌++◌, length, get_or}
+use Rattle.std.specs.Prelude.{Option, Some, None, ℕ, suc, ◌+◌, ◌≤◌, ◌<◌, ◌≡◌, cond, List, [], ◌∷◌, ◌++◌, length, get_or}
 use Rattle.std.proofs.Math.Bool.{true}
-use Rattle.std.proofs.Math.Option.{Option, none, some}
 use Rattle.basis.specs.Bytes.{Bytes}
 use Rattle.rows.specs.Ids.{among, distinct}
 use Rattle.seen.specs.Entries.{until}
@@ -18,8 +17,8 @@ abbrev pub with_got : List ℕ → List (List ℕ) → List (List ℕ)
 with_got m got = cond (among m got) got (got ++ (m ∷ []))
 
 abbrev pub got_by : List (List ℕ) → Option (List ℕ) → List (List ℕ)
-got_by got none = got
-got_by got (some m) = with_got m got
+got_by got None = got
+got_by got (Some m) = with_got m got
 
 abbrev pub got_next : ℕ → List (List ℕ) → Call → List (List ℕ)
 got_next flags got c = got_by got (brought flags c)

@@ -3,7 +3,7 @@
 -- premises hold is to be seen from the figures, and is not stated. 65,536 bytes are more than a reply needs: 61,485 are
 -- enough for fifteen messages.
 use Prim.Native.Nat.{ℕ}
-use Rattle.std.specs.Prelude.{◌≡◌, false, length}
+use Rattle.std.specs.Prelude.{Result, ◌≡◌, false, length}
 use Rattle.std.proofs.Math.Bool.{true}
 use mathlib.Core.List.{List, [], ◌∷◌, ◌++◌}
 use Rattle.basis.specs.declared.Edition.{Edition}
@@ -11,13 +11,14 @@ use Rattle.basis.specs.Dialect.{mode_of}
 use Rattle.protobuf.specs.Encode.{bytes_field}
 use Rattle.admission.specs.Admission.{gives_id}
 use Rattle.rows.specs.Ids.{same_bytes}
-use Rattle.node.specs.declared.Serve.{Serve}
-use Rattle.node.specs.declared.Serve.TheVariants as served
+use Rattle.node.specs.declared.Reply.{Reply}
+use Rattle.node.specs.declared.ServeError.{ServeError}
 use Rattle.node.specs.Gateway.{Gateway, is_new, after_admit, told_of, lacking, having}
 use Rattle.node.specs.Calls.{serve_answer, serve_left}
 use Rattle.history.specs.History.{State, gateway_of, Settings, Fresh, Call, admit, advertise, ask, serve, after_all}
 use Rattle.history.specs.History.{refusal_at, brings, times_new, served_bytes, served_messages, admits}
 use Rattle.history.specs.Samples.{signature, first-sender, message, id_of, unsigned_body, start}
+use Rattle.outputs.specs.Replied.{wrote}
 use Rattle.agreement.specs.Round.{missing, lacked, Play, advert_of, request_of, reply_of, asker_rounds, teller_rounds}
 use Rattle.agreement.specs.Example.{second-id, settings_a_lem}
 use Rattle.agreement.specs.Pair.{at_a}
@@ -105,7 +106,7 @@ pub record Untold (told : List (List ℕ)) (a b : Gateway) : Type 0 where
 -- ---- no second body is lent in a round
 -- a round as those of Round, but for the second body that its serve is lent
 module _ (p : Play) (second : List ℕ) (a b : State) where
-  abbrev pub reply_with : Serve
+  abbrev pub reply_with : Result Reply ServeError
   reply_with =
       serve_answer b.node b.ids b.messages (p.serve_edition 0) (request_of p a b) second (p.reply_out 0)
 
@@ -128,7 +129,7 @@ module _ (p : Play) (second : List ℕ) (a b : State) where
   -- admitted; and after the round it is lacking as before
   pub record Withheld : Type 0 where
     pub lacks : length (lacked p.topic a b) ≡ 1
-    pub answers : reply_with ≡ served.Reply 0 0 0
+    pub answers : reply_with ≡ wrote 0 0 0
     pub still : (at : ℕ → ℕ)
         → lacked p.topic (after_all (asker_with at) a) (after_all teller_with b) ≡ lacked p.topic a b
 

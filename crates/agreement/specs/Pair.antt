@@ -1,8 +1,7 @@
 -- Two messages; a gateway that got the first and one that got both, with histories that meet every premise; and a round
 -- that brings the second. The examples with unsigned messages and with groups have this in common.
-use Rattle.std.specs.Prelude.{ℕ, ◌≡◌, Bool, true}
+use Rattle.std.specs.Prelude.{Some, ℕ, ◌≡◌, Bool, true}
 use mathlib.Core.List.{List, [], ◌∷◌}
-use Rattle.std.proofs.Math.Option.{some}
 use Rattle.basis.specs.declared.Edition.{Edition}
 use Rattle.basis.specs.declared.Edition.TheVariants.{V11, V12}
 use Rattle.basis.specs.Bytes.{Bytes}
@@ -19,7 +18,7 @@ pub record Pair (flags : ℕ) (word : Bool) (m i body k j other : List ℕ) : Ty
   pub known : known_flags flags ≡ true
   pub first : (ed : Edition) → Carries flags ed body m i
   pub second : (ed : Edition) → Carries flags ed other k j
-  pub comes : brought flags (admit V12 body 0 word 10) ≡ some m
+  pub comes : brought flags (admit V12 body 0 word 10) ≡ Some m
   pub bytes-first : Bytes m
   pub bytes-second : Bytes k
   pub differ : i ≡ j → ⊥

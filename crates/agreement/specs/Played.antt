@@ -2,10 +2,11 @@
 -- advertisement, the request and the reply are those of the definitions; and the reply has fifteen messages, or all
 -- that are asked for.
 use Prim.Native.Nat.{ℕ}
-use Rattle.std.specs.Prelude.{◌≡◌}
+use Rattle.std.specs.Prelude.{Result, ◌≡◌}
 use mathlib.Core.List.{List}
 use Rattle.std.proofs.lemmas.List.Edits.{sets}
-use Rattle.node.specs.declared.Serve.{Serve}
+use Rattle.node.specs.declared.Reply.{Reply}
+use Rattle.node.specs.declared.ServeError.{ServeError}
 use Rattle.node.specs.Gateway.{told_of, lacking, having}
 use Rattle.node.specs.Calls.{served_of, reply_bytes, serve_number}
 use Rattle.history.specs.History.{State, gateway_of, Settings, served_bytes, served_messages}
@@ -13,7 +14,7 @@ use Rattle.agreement.specs.Round.{Play, Fair}
 use Rattle.agreement.specs.Holding.{Holding}
 
 -- what is answered
-pub record Answers (ms : List (List ℕ)) (out : List ℕ) (r : Serve) : Type 0 where
+pub record Answers (ms : List (List ℕ)) (out : List ℕ) (r : Result Reply ServeError) : Type 0 where
   pub done : serve_number r ≡ 0
   pub bytes : served_bytes r (sets out 0 (reply_bytes ms out)) ≡ reply_bytes ms out
   pub count : served_messages r ≡ served_of ms out

@@ -1,12 +1,13 @@
 -- Rounds for one topic, between a gateway that asks and one that tells: advertise, ask, serve without a second body,
 -- admit all served with the host's word, each call in an edition of its own. And what the one lacks of the other.
-use Rattle.std.specs.Prelude.{ℕ, zero, suc, ◌≤◌, cond, not, ◌&&◌, List, [], ◌∷◌, ◌++◌, length}
+use Rattle.std.specs.Prelude.{Result, ℕ, zero, suc, ◌≤◌, cond, not, ◌&&◌, List, [], ◌∷◌, ◌++◌, length}
 use Rattle.basis.specs.declared.Edition.{Edition}
 use Rattle.basis.specs.declared.Mode.{Mode}
 use Rattle.basis.specs.Dialect.{mode_of}
 use Rattle.rows.specs.Ids.{among}
 use Rattle.mcache.specs.Messages.{Cached, topics}
-use Rattle.node.specs.declared.Serve.{Serve}
+use Rattle.node.specs.declared.Reply.{Reply}
+use Rattle.node.specs.declared.ServeError.{ServeError}
 use Rattle.node.specs.Gateway.{Gateway, knows}
 use Rattle.node.specs.Calls.{advertise_answer, advertise_left, ask_answer, ask_left, serve_answer, serve_left, max_rpc_size}
 use Rattle.history.specs.History.{State, gateway_of, Settings, Call, advertise, ask, serve, after_all, told_bytes}
@@ -105,7 +106,7 @@ module _ (p : Play) where
       (ask_left a.node a.ids a.messages (p.ask_edition 0) (advert_of b) (p.request_out 0))
 
   -- b's reply, given a's request and no second body
-  abbrev pub reply_answer : State → State → Serve
+  abbrev pub reply_answer : State → State → Result Reply ServeError
   reply_answer a b =
       serve_answer b.node b.ids b.messages (p.serve_edition 0) (request_of a b) [] (p.reply_out 0)
 

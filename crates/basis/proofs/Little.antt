@@ -1,45 +1,61 @@
 -- The loops of read_little and spell_little, and what little_at reads where bytes are missing.
-use Prim.Native.Nat.{ℕ, zero, suc, ◌+◌, ◌*◌, ◌-◌, ◌/◌, ◌%◌, ◌^◌, ◌≤◌, ◌<◌, min}
-use mathlib.Core.Path.{◌≡◌, refl, sym, ap, ◌∙◌}
-use mathlib.Core.List.{List}
+use Prim.Native.Nat.{ℕ, suc, ◌+◌, ◌*◌, ◌-◌, ◌/◌, ◌%◌, ◌^◌, ◌≤◌, ◌<◌, min}
+use mathlib.Core.Path.{◌≡◌, sym, ap, ◌∙◌}
+use mathlib.Core.List.{List, [], ◌∷◌, ◌++◌}
 use mathlib.Core.Bool.{true}
 use native.Mathlib.Omega.{arith}
 use native.Mathlib.Nat.{pow-suc, pow-le-pow_right}
-use lib.ListN.{length, take, drop, get_or, set, length-drop, drop_of_length-le}
-use lib.Seq.{sets, drop-cons, take_all, take-nil}
+use lib.ListN.{length, take, drop, set, length-drop, drop_of_length-le}
+use lib.Seq.{sets, take_all, take-nil}
 use lib.Dec.{leb}
 use borrow.Author.Tests.{leb-true, leb-false}
+use Rattle.std.proofs.lemmas.List.{length_push, nil_from_length}
 use Rattle.basis.specs.Cases.{either}
 use Rattle.basis.specs.Writing.{end_in, set_in}
 use Rattle.basis.specs.Lists.{end_fits, set-fits}
 use Rattle.basis.specs.Little.{little, bytes_of, bytes_length_lem}
 use Rattle.basis.specs.Unique.{Leaves}
 
-below : (s : List ℕ) (j e v : ℕ) → suc j ≤ e → e ≤ length s → v ≡ little (take (e - suc j) (drop (suc j) s)) → v * 256 + get_or s j 0 ≡ little (take (e - j) (drop j s))
+-- ---- reading: the number in all bytes, where some are left and v is the number in those after them, m at most
+pub record Read (all n : ℕ) (rest : List ℕ) (v : ℕ) : Type 0 where
+  pub whole : all ≡ little rest + 256 ^ length rest * v
+  pub within : length rest ≤ n
+  pub below : v < 256 ^ (n - length rest)
+
+pub none : (s : List ℕ) (n : ℕ) → length s ≤ n → Read (little s) n s 0
+none s n h =
+    let z : 0 ≤ n - length s = omega arith in
+    let q : 256 ^ 0 ≤ 256 ^ (n - length s) = pow-le-pow_right (omega arith) z in
+    record { whole = omega arith; within = h; below = omega arith }
+
+little-push : (s : List ℕ) (b : ℕ) → little (s ++ b ∷ []) ≡ little s + 256 ^ length s * b
 unfolding little
-below s j e v h l p =
-    let k : e - j ≡ suc (e - suc j) = omega arith in
-    rw (k, drop-cons s j 0 (omega arith)) (omega (arith, p))
+little-push [] b = omega arith
+little-push (x ∷ s) b = let p = pow-suc 256 (length s) in rw (little-push s b, p) (omega arith)
 
-pub turn : (s : List ℕ) (i e v : ℕ) → 0 < i → i ≤ e → e ≤ length s → v ≡ little (take (e - i) (drop i s)) → v * 256 + get_or s (i - 1) 0 ≡ little (take (e - (i - 1)) (drop (i - 1) s))
-turn s zero e v z h l p = absurd (omega arith)
-turn s (suc j) e v z h l p = let k : suc j - 1 ≡ j = omega arith in rw k (below s j e v h l p)
+module _ {a n v : ℕ} {r : List ℕ} where
+  -- fewer than 8 bytes leave room for one more
+  pub room : (s : List ℕ) (b : ℕ) → n ≤ 8 → r ≡ s ++ b ∷ [] → Read a n r v → v < 2 ^ 56
+  room s b h e p =
+      let l = ap length e ∙ length_push s b in
+      let m : n - length r ≤ 7 = omega (arith, p.within) in
+      let q : 256 ^ (n - length r) ≤ 256 ^ 7 = pow-le-pow_right (omega arith) m in
+      omega (arith, p.below)
 
-pub grows : (i e v b : ℕ) → 0 < i → i ≤ e → v < 256 ^ (e - i) → b < 256 → v * 256 + b < 256 ^ (e - (i - 1))
-grows i e v b z h p q =
-    let k : e - (i - 1) ≡ suc (e - i) = omega arith in
-    rw k (omega (arith, pow-suc 256 (e - i)))
+  pub one_more : (s : List ℕ) (b : ℕ) → r ≡ s ++ b ∷ [] → b < 256 → Read a n r v → Read a n s (v * 256 + b)
+  one_more s b e h p =
+      let l : length r ≡ suc (length s) = omega (arith, ap length e, length_push s b) in
+      let q : 256 ^ length r ≡ 256 ^ length s * 256 = rw l (pow-suc 256 (length s)) in
+      let d : n - length s ≡ suc (n - length r) = omega (arith, p.within) in
+      record {
+        whole = omega (arith, rw (q, ap little e ∙ little-push s b) at p.whole);
+        within = omega (arith, p.within);
+        below = rw d (omega (arith, pow-suc 256 (n - length r), p.below));
+      }
 
--- fewer than 8 bytes leave room for one more
-pub room : (m v : ℕ) → m ≤ 7 → v < 256 ^ m → v < 2 ^ 56
-room m v h p = let q : 256 ^ m ≤ 256 ^ 7 = pow-le-pow_right (omega arith) h in omega arith
-
-pub none : (s : List ℕ) (e : ℕ) → (0 < 256 ^ (e - e)) × (0 ≡ little (take (e - e) (drop e s)))
-unfolding little
-none s e = let k : e - e ≡ 0 = omega arith in rw k (omega arith, refl)
-
-pub all : (s : List ℕ) (at n i v : ℕ) → at ≤ i → i ≤ at → v ≡ little (take (at + n - i) (drop i s)) → v ≡ little (take n (drop at s))
-all s at n i v h l p = let k : i ≡ at = omega arith in let m : at + n - i ≡ n = omega arith in p ∙ rw (m, k)
+  pub all : length r ≡ 0 → Read a n r v → v ≡ a
+  unfolding little
+  all e p = sym (p.whole ∙ rw (nil_from_length r e) (omega arith))
 
 pub past : (s : List ℕ) (at n : ℕ) → length s < at → 0 ≡ little (take n (drop at s))
 unfolding little

@@ -1,16 +1,15 @@
 -- Laws of lists and of writing that several crates cite.
-use Rattle.std.specs.Prelude.{ℕ, zero, suc, ◌+◌, ◌-◌, ◌≤◌, ◌<◌, ◌≡◌, refl, List, [], ◌∷◌, ◌++◌, length, get_or, set, take, drop, replicate, false, ltb, leb}
+use Rattle.std.specs.Prelude.{Result, Ok, Err, ℕ, zero, suc, ◌+◌, ◌-◌, ◌≤◌, ◌<◌, ◌≡◌, refl, List, [], ◌∷◌, ◌++◌, length, get_or, set, take, drop, replicate, false, ltb, leb}
 use Rattle.std.proofs.Common.{sym, ap, ◌∙◌, arith, add-zero, zero-add, length-take, get_or-drop, get_or-take, le-leb, ltb-true, ltb-false}
 use Rattle.std.proofs.Math.Nat.{sub-zero, zero-sub, suc-sub-suc}
 use Rattle.std.proofs.Math.ListN.{get_or-eq_default}
 use Rattle.std.proofs.lemmas.List.Edits.{sets, sets-eq}
 use Rattle.std.proofs.Math.Seq.{take-nil}
 use Rattle.std.proofs.lemmas.Bool.{lt-leb}
-use Rattle.basis.specs.declared.Written.{Written}
-use Rattle.basis.specs.declared.Written.TheVariants.{Bytes as Wrote, Room}
 use Rattle.basis.specs.Cases.{either}
 use Rattle.basis.specs.Bytes.{Bytes}
-use Rattle.basis.specs.Writing.{answer, written, end_in, set_in}
+use Rattle.basis.specs.Writing.{no_room, answer, written, end_in, set_in}
+use Rattle.basis.specs.declared.ShortRoom.{ShortRoom}
 
 -- one write after another is one write
 pub sets-append : {A : Type 0} (l : List A) (i : ℕ) (xs ys : List A)
@@ -21,7 +20,7 @@ sets-append l i (x ∷ xs) ys = sets-append (set l i x) (suc i) xs ys
     (omega arith)
 
 -- a writer that has the room
-pub answer-fits : (xs out : List ℕ) → length xs ≤ length out → answer xs out ≡ Wrote (length xs)
+pub answer-fits : (xs out : List ℕ) → length xs ≤ length out → answer xs out ≡ Ok (length xs)
 unfolding answer
 answer-fits xs out h = simp (le-leb _ _ h)
 
@@ -30,7 +29,7 @@ unfolding written
 written-fits xs out h = simp (le-leb _ _ h) (sym (simp zero-add at (sets-eq xs out 0 (omega arith))))
 
 -- a writer that has not
-pub answer-short : (xs out : List ℕ) → length out < length xs → answer xs out ≡ Room (length xs)
+pub answer-short : (xs out : List ℕ) → length out < length xs → answer xs out ≡ Err (no_room (length xs))
 unfolding answer
 answer-short xs out h = simp (lt-leb _ _ h)
 
@@ -39,7 +38,7 @@ unfolding written
 written-short xs out h = simp (lt-leb _ _ h)
 
 -- by a number that is 0 where bytes were written: where it is not 0, nothing was
-pub refused_write : (xs out : List ℕ) (number : Written → ℕ) → ((n : ℕ) → number (Wrote n) ≡ 0)
+pub refused_write : (xs out : List ℕ) (number : Result ℕ ShortRoom → ℕ) → ((n : ℕ) → number (Ok n) ≡ 0)
     → (number (answer xs out) ≡ 0 → ⊥) → written xs out ≡ out
 unfolding answer written
 refused_write xs out number z h =

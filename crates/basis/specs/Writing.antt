@@ -1,11 +1,14 @@
 -- What a writer of the bytes xs answers and leaves in the lent bytes: they stand at the front, or nothing changes.
-use Rattle.std.specs.Prelude.{ℕ, ◌+◌, List, ◌++◌, cond, length, drop, leb}
+use Rattle.std.specs.Prelude.{Result, Ok, Err, ℕ, ◌+◌, List, ◌++◌, cond, length, drop, leb}
 use Rattle.std.proofs.lemmas.List.Edits.{sets}
-use Rattle.basis.specs.declared.Written.{Written}
-use Rattle.basis.specs.declared.Written.TheVariants.{Bytes, Room}
+use Rattle.basis.specs.declared.ShortRoom.{ShortRoom}
 
-unfoldable pub answer : List ℕ → List ℕ → Written
-answer xs out = cond (leb (length xs) (length out)) (Bytes (length xs)) (Room (length xs))
+-- the answer of a writer that lacks so many bytes
+abbrev pub no_room : ℕ → ShortRoom
+no_room n = record { needed = n }
+
+unfoldable pub answer : List ℕ → List ℕ → Result ℕ ShortRoom
+answer xs out = cond (leb (length xs) (length out)) (Ok (length xs)) (Err (no_room (length xs)))
 
 unfoldable pub written : List ℕ → List ℕ → List ℕ
 written xs out = cond (leb (length xs) (length out)) (xs ++ drop (length xs) out) out

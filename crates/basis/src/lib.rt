@@ -8,9 +8,8 @@ ghost use Rattle.std.specs.Prelude.{◌≡◌, [], ◌∷◌, ◌+◌, ◌≤◌
 ghost use Rattle.std.proofs.lemmas.List.Edits.{sets};
 ghost use Rattle.basis.specs.Writing.{end_in, set_in};
 ghost use Rattle.basis.specs.Little.{little, bytes_of};
-ghost use Rattle.basis.specs.Told.{told, placed};
+ghost use Rattle.basis.specs.Told.{told, placed, fault_told, fine_told};
 ghost use Rattle.basis.specs.Spot.{at, fields_of};
-ghost use Rattle.basis.specs.declared.Spot.TheVariants.{At};
 ghost use Rattle.basis.specs.Dialect.{edition_of, mode_of, dialect_of};
 ghost use Rattle.basis.specs.Unique.{Leaves};
 
@@ -36,45 +35,71 @@ pub struct Dialect {
 }
 
 // The edition that a number names: only its lowest bit counts, 0 for 1.1 and 1 for 1.2.
-pub fn edition_of(number: u64) -> Edition
-    ensures { result ≡ edition_of number }
-{
-    if number % 2 == 0 {
-        return Edition::V11;
+#[tactic(auto, unfolding(crate::specs::Dialect::edition_of))]
+impl From<u64> for Edition {
+    ghost from_gives = { λ number edition. edition ≡ edition_of number };
+
+    fn from(number: u64) -> Edition {
+        match number % 2 {
+            0 => Edition::V11,
+            _ => Edition::V12,
+        }
     }
-    Edition::V12
 }
 
 // The mode that a number names, by its second bit.
-pub fn mode_of(number: u64) -> Mode
-    ensures { result ≡ mode_of number }
-{
-    if number / 2 % 2 == 0 {
-        return Mode::Plain;
+#[tactic(auto, unfolding(crate::specs::Dialect::mode_of))]
+impl From<u64> for Mode {
+    ghost from_gives = { λ number mode. mode ≡ mode_of number };
+
+    fn from(number: u64) -> Mode {
+        match number / 2 % 2 {
+            0 => Mode::Plain,
+            _ => Mode::Groups,
+        }
     }
-    Mode::Groups
 }
 
 // The dialect that a number names, by both bits.
+#[tactic(auto, unfolding(crate::specs::Dialect::dialect_of))]
+impl From<u64> for Dialect {
+    ghost from_gives = { λ number dialect. dialect ≡ dialect_of number };
+
+    fn from(number: u64) -> Dialect {
+        Dialect {
+            edition: Edition::from(number),
+            mode: Mode::from(number),
+        }
+    }
+}
+
+// The same three under names of their own.
+pub fn edition_of(number: u64) -> Edition
+    ensures { result ≡ edition_of number }
+{
+    Edition::from(number)
+}
+
+pub fn mode_of(number: u64) -> Mode
+    ensures { result ≡ mode_of number }
+{
+    Mode::from(number)
+}
+
 pub fn dialect_of(number: u64) -> Dialect
     ensures { result ≡ dialect_of number }
 {
-    let edition = edition_of(number);
-    let mode = mode_of(number);
-    Dialect { edition, mode }
+    Dialect::from(number)
 }
 
 // Where in a body a refusal stands: how many bytes after the body's start, and the numbers of the fields that enclose it, the outermost first, 0
-// for none. Or that it is no refusal of a body's bytes.
+// for none. A refusal of no byte of a body has none.
 #[derive(Clone, Copy)]
-pub enum Spot {
-    Nowhere,
-    At {
-        offset: usize,
-        outer: u64,
-        middle: u64,
-        inner: u64,
-    },
+pub struct Spot {
+    pub offset: usize,
+    pub outer: u64,
+    pub middle: u64,
+    pub inner: u64,
 }
 
 impl Spot {
@@ -82,29 +107,25 @@ impl Spot {
     pub fn at(offset: usize) -> Spot
         ensures { result ≡ at offset }
     {
-        Spot::At {
+        Spot {
             offset,
             outer: 0,
             middle: 0,
             inner: 0,
         }
     }
-}
 
-// How many fields enclose a place, by their numbers.
-pub fn depth(outer: u64, middle: u64, inner: u64) -> u64
-    ensures { result ≡ length (fields_of (At 0 outer middle inner)) }
-{
-    if outer == 0 {
-        return 0;
+    // How many fields enclose a place.
+    pub fn depth(self) -> u64
+        ensures { result ≡ length (fields_of (Some self)) }
+    {
+        match (self.outer, self.middle, self.inner) {
+            (0, _, _) => 0,
+            (_, 0, _) => 1,
+            (_, _, 0) => 2,
+            _ => 3,
+        }
     }
-    if middle == 0 {
-        return 1;
-    }
-    if inner == 0 {
-        return 2;
-    }
-    3
 }
 
 // What a call tells: the scope's number, 0 where it is done, and how many values stand beside it; the others are 0. And where in the body it stands.
@@ -116,7 +137,7 @@ pub struct Told {
     pub second: u64,
     pub third: u64,
     pub fourth: u64,
-    pub spot: Spot,
+    pub spot: Option<Spot>,
 }
 
 impl Told {
@@ -130,7 +151,7 @@ impl Told {
             second: 0,
             third: 0,
             fourth: 0,
-            spot: Spot::Nowhere,
+            spot: None,
         }
     }
 
@@ -138,13 +159,9 @@ impl Told {
         ensures { result ≡ told number (first ∷ []) }
     {
         Told {
-            number,
             count: 1,
             first,
-            second: 0,
-            third: 0,
-            fourth: 0,
-            spot: Spot::Nowhere,
+            ..Told::none(number)
         }
     }
 
@@ -152,13 +169,9 @@ impl Told {
         ensures { result ≡ told number (first ∷ second ∷ []) }
     {
         Told {
-            number,
             count: 2,
-            first,
             second,
-            third: 0,
-            fourth: 0,
-            spot: Spot::Nowhere,
+            ..Told::one(number, first)
         }
     }
 
@@ -166,13 +179,9 @@ impl Told {
         ensures { result ≡ told number (first ∷ second ∷ third ∷ []) }
     {
         Told {
-            number,
             count: 3,
-            first,
-            second,
             third,
-            fourth: 0,
-            spot: Spot::Nowhere,
+            ..Told::two(number, first, second)
         }
     }
 
@@ -180,47 +189,61 @@ impl Told {
         ensures { result ≡ told number (first ∷ second ∷ third ∷ fourth ∷ []) }
     {
         Told {
-            number,
             count: 4,
-            first,
-            second,
-            third,
             fourth,
-            spot: Spot::Nowhere,
+            ..Told::three(number, first, second, third)
         }
     }
 
     // The same, with its place.
-    pub fn placed(self, spot: Spot) -> Told
+    pub fn placed(self, spot: Option<Spot>) -> Told
         ensures { result ≡ placed spot self }
     {
-        Told {
-            number: self.number,
-            count: self.count,
-            first: self.first,
-            second: self.second,
-            third: self.third,
-            fourth: self.fourth,
-            spot,
+        Told { spot, ..self }
+    }
+}
+
+// What is wrong with lent state: the refusals 40, 41 and 42.
+#[derive(Clone, Copy)]
+pub enum Fault {
+    BadSetting,
+    BadStore,
+    Malformed,
+}
+
+impl Fault {
+    pub fn told(self) -> Told
+        ensures { result ≡ fault_told self }
+    {
+        match self {
+            Fault::BadSetting => Told::none(refusals::BAD_SETTING),
+            Fault::BadStore => Told::none(refusals::BAD_STORE),
+            Fault::Malformed => Told::none(refusals::MALFORMED),
         }
     }
 }
 
-// What a writer did: it wrote so many bytes at the front of the lent slice; or that many do not fit, and it wrote none (refusal 12).
+// What a test of lent state, or a start, tells: that all is well, or what is wrong.
+pub fn told_fine(answer: Result<(), Fault>) -> Told
+    ensures { result ≡ fine_told answer }
+{
+    match answer {
+        Ok(()) => Told::none(0),
+        Err(why) => why.told(),
+    }
+}
+
+// Why a writer at the front of a lent slice wrote nothing: so many bytes do not fit (refusal 12).
 #[derive(Clone, Copy)]
-pub enum Written {
-    Bytes(usize),
-    Room(usize),
+pub struct ShortRoom {
+    pub needed: usize,
 }
 
 // Whether `room` bytes from `at` on lie within len.
 pub fn has_room(len: usize, at: usize, room: usize) -> bool
     ensures { result ≡ leb (at + room) len }
 {
-    if len < at {
-        return false;
-    }
-    room <= len - at
+    at <= len && room <= len - at
 }
 
 // The number in n bytes at `at`, the low byte first, where they are there.
@@ -229,11 +252,9 @@ fn read_little(s: &[u8], at: usize, n: usize) -> u64
     requires n_in_bounds { at + n ≤ length s.now }
     ensures { result ≡ little (take n (drop at s.now)) }
 {
-    let mut i = at + n;
-    let mut value: u64 = 0;
-    while at < i {
-        i = i - 1;
-        value = value * 256 + s[i] as u64;
+    let mut value = 0;
+    for b in s[at..at + n].iter().rev() {
+        value = value * 256 + u64::from(*b);
     }
     value
 }
@@ -242,7 +263,7 @@ fn read_little(s: &[u8], at: usize, n: usize) -> u64
 pub fn least(a: usize, b: usize) -> usize
     ensures { result ≡ min a b }
 {
-    if a < b { a } else { b }
+    a.min(b)
 }
 
 // The number in n bytes at `at`, the low byte first: in the first eight of them, and in those that are there.
@@ -252,8 +273,7 @@ pub fn little_at(s: &[u8], at: usize, n: usize) -> u64
     if s.len() < at {
         return 0;
     }
-    let most = least(n, 8);
-    let m = least(most, s.len() - at);
+    let m = n.min(8).min(s.len() - at);
     read_little(s, at, m)
 }
 
@@ -263,11 +283,9 @@ fn spell_little(out: &mut [u8], at: usize, n: usize, value: u64)
     ensures { out.new ≡ sets out.old at (bytes_of n value) }
 {
     let mut v = value;
-    let mut i: usize = 0;
-    while i < n {
+    for i in 0..n {
         out[at + i] = (v % 256) as u8;
-        v = v / 256;
-        i += 1;
+        v /= 256;
     }
 }
 
@@ -276,10 +294,9 @@ pub fn put_little(out: &mut [u8], at: usize, n: usize, value: u64) -> usize
     ensures { Leaves (end_in n at (bytes_of n value) out.old)
         (set_in n at (bytes_of n value) out.old) result out.new }
 {
-    if has_room(out.len(), at, n) {
-        let end = at + n;
-        spell_little(out, at, n, value);
-        return end;
+    if !has_room(out.len(), at, n) {
+        return at;
     }
-    at
+    spell_little(out, at, n, value);
+    at + n
 }

@@ -2,11 +2,15 @@
 ghost use Rattle.std.specs.Prelude.{◌≤◌, length};
 
 use super::answers::{put_line, shift_line};
-use super::say::{last, print, print_line, start};
-use basis::Edition;
+use super::say::{Line, print, print_line, start};
+use basis::{Edition, told_fine};
 use lines::{refusal_line, told_line};
-use mcache::told::{told_gossip, told_lent, told_lookup, told_put, told_start};
-use mcache::{GossipIds, Lookup, MessageCache, Start};
+use mcache::told::{told_gossip, told_lookup, told_put};
+use mcache::{GossipIds, MessageCache};
+use text::last;
+
+// Room for the most messages.
+pub(crate) type CacheStore = [u8; 262144];
 
 #[derive(Clone, Copy)]
 pub(crate) struct CachePart {
@@ -16,19 +20,15 @@ pub(crate) struct CachePart {
 }
 
 pub(crate) fn no_cache() -> CachePart {
-    let s = MessageCache::new(1, 0, 0);
-    let cache = s.cache;
     CachePart {
         go: true,
         started: false,
-        cache,
+        cache: MessageCache::new(1, 0, 0).cache,
     }
 }
 
 fn with_go(part: CachePart, go: bool) -> CachePart {
-    let started = part.started;
-    let cache = part.cache;
-    CachePart { go, started, cache }
+    CachePart { go, ..part }
 }
 
 fn bad(part: CachePart) -> CachePart {
@@ -48,10 +48,8 @@ fn begin(
     flags: usize,
     content: &[u8],
     part: CachePart,
-    out: &mut [u8],
-) -> CachePart
-    requires { 256 ≤ length out.old }
-{
+    out: &mut Line,
+) -> CachePart {
     if content.len() != size {
         return bad(part);
     }
@@ -59,23 +57,20 @@ fn begin(
     let max_messages = basis::little_at(content, 2, 2) as usize;
     let next = basis::little_at(content, 4, 8);
     let s = MessageCache::new(history_len, max_messages, flags);
-    let answer = s.answer;
-    let k = told_line(n, b" cache ok", b" cache", true, told_start(answer), out);
+    let k = told_line(n, b" cache ok", b" cache", true, told_fine(s.answer), out);
     let go = print_line(out, k);
-    match answer {
-        Start::BadSetting => with_go(part, go),
-        Start::Started => CachePart {
-            go,
-            started: true,
-            cache: arriving(s.cache, next),
-        },
+    if s.answer.is_err() {
+        return with_go(part, go);
+    }
+    CachePart {
+        go,
+        started: true,
+        cache: arriving(s.cache, next),
     }
 }
 
 // Kind 16: as kind 6, and then the flags.
-fn begin_flagged(n: u64, content: &[u8], part: CachePart, out: &mut [u8]) -> CachePart
-    requires { 256 ≤ length out.old }
-{
+fn begin_flagged(n: u64, content: &[u8], part: CachePart, out: &mut Line) -> CachePart {
     let flags = basis::little_at(content, 12, 2) as usize;
     begin(n, 14, flags, content, part, out)
 }
@@ -87,31 +82,23 @@ fn put(
     content: &[u8],
     part: CachePart,
     store: &mut [u8],
-    out: &mut [u8],
-) -> CachePart
-    requires { 256 ≤ length out.old }
-{
+    out: &mut Line,
+) -> CachePart {
     if content.len() < 2 {
         return bad(part);
     }
     let index = basis::little_at(content, 0, 2) as usize;
-    let cache = part.cache;
-    let r = cache.put(store, edition, &content[2..], index);
-    let answer = r.answer;
-    let left = r.cache;
-    let k = put_line(n, told_put(answer), out);
-    let go = print_line(out, k);
+    let r = part.cache.put(store, edition, &content[2..], index);
+    let k = put_line(n, told_put(r.answer), out);
     CachePart {
-        go,
+        go: print_line(out, k),
         started: true,
-        cache: left,
+        cache: r.cache,
     }
 }
 
 // Kind 17: the number of an edition, and then as kind 7.
-fn put_in(n: u64, content: &[u8], part: CachePart, store: &mut [u8], out: &mut [u8]) -> CachePart
-    requires { 256 ≤ length out.old }
-{
+fn put_in(n: u64, content: &[u8], part: CachePart, store: &mut [u8], out: &mut Line) -> CachePart {
     if content.len() < 1 {
         return bad(part);
     }
@@ -124,73 +111,54 @@ fn put_in(n: u64, content: &[u8], part: CachePart, store: &mut [u8], out: &mut [
 }
 
 // Kind 8.
-fn shift(n: u64, content: &[u8], part: CachePart, store: &[u8], out: &mut [u8]) -> CachePart
-    requires { 256 ≤ length out.old }
-{
+fn shift(n: u64, content: &[u8], part: CachePart, store: &[u8], out: &mut Line) -> CachePart {
     if content.len() != 0 {
         return bad(part);
     }
-    let cache = part.cache;
-    let r = cache.shift(store);
-    let answer = r.answer;
-    let left = r.cache;
-    let k = shift_line(n, told_lent(answer), out);
-    let go = print_line(out, k);
+    let r = part.cache.shift(store);
+    let k = shift_line(n, told_fine(r.answer), out);
     CachePart {
-        go,
+        go: print_line(out, k),
         started: true,
-        cache: left,
+        cache: r.cache,
     }
 }
 
 // A blank, an equals sign and the hex of the id in place p.
-fn put_id(id_lens: &[u8], ids: &[u8], p: usize, out: &mut [u8], at: usize) -> usize {
-    if p < id_lens.len() {
-        if p < 64 {
-            let base = p * 128;
-            let end = base + id_lens[p] as usize;
-            if end <= ids.len() {
-                let i = text::put_text(out, at, b" =");
-                return text::put_hex(out, i, &ids[base..end]);
-            }
+fn put_id(id_lens: &[u8], ids: &[u8], p: usize, out: &mut Line, at: usize) -> usize {
+    if p < id_lens.len() && p < 64 {
+        let base = p * 128;
+        let end = base + id_lens[p] as usize;
+        if end <= ids.len() {
+            let i = text::put_text(out, at, b" =");
+            return text::put_hex(out, i, &ids[base..end]);
         }
     }
     at
 }
 
-fn say_ids(n: u64, id_lens: &[u8], ids: &[u8], rows: &[u8], count: usize, out: &mut [u8]) -> bool {
+fn say_ids(n: u64, id_lens: &[u8], ids: &[u8], rows: &[u8], count: usize, out: &mut Line) -> bool {
     let s = start(n, b" gossip", out);
     let mut k = text::put_number(out, s, count as u64);
-    let mut i = 0;
-    while i < count {
+    for i in 0..count {
         if rows.len() <= i {
             return false;
         }
         k = put_id(id_lens, ids, rows[i] as usize, out, k);
-        i += 1;
     }
     print(out, k)
 }
 
-fn say_gossip(n: u64, cache: MessageCache, g: GossipIds, out: &mut [u8]) -> bool
-    requires { 256 ≤ length out.old }
-{
-    let answer = g.answer;
-    let t = told_gossip(answer);
-    if t.number == 0 {
-        let id_lens = cache.id_len;
-        let ids = cache.ids;
-        let rows = g.rows;
-        return say_ids(n, &id_lens, &ids, &rows, g.count, out);
+fn say_gossip(n: u64, cache: MessageCache, g: GossipIds, out: &mut Line) -> bool {
+    if g.answer.is_ok() {
+        return say_ids(n, &cache.id_len, &cache.ids, &g.rows, g.count, out);
     }
-    let k = refusal_line(n, b" gossip", true, t, out);
+    let k = refusal_line(n, b" gossip", true, told_gossip(g.answer), out);
     print_line(out, k)
 }
 
 // Kind 9.
-fn gossip(n: u64, content: &[u8], part: CachePart, store: &[u8], out: &mut [u8]) -> CachePart
-    requires { 256 ≤ length out.old }
-{
+fn gossip(n: u64, content: &[u8], part: CachePart, store: &[u8], out: &mut Line) -> CachePart {
     if content.len() < 2 {
         return bad(part);
     }
@@ -202,19 +170,17 @@ fn gossip(n: u64, content: &[u8], part: CachePart, store: &[u8], out: &mut [u8])
 }
 
 // A message that was found, in hex.
-fn say_message(n: u64, message: &[u8], out: &mut [u8]) -> bool {
+fn say_message(n: u64, message: &[u8], out: &mut Line) -> bool {
     let i = start(n, b" get =", out);
     let k = text::put_hex(out, i, message);
     print(out, k)
 }
 
 // Kind 10.
-fn get(n: u64, content: &[u8], part: CachePart, store: &[u8], out: &mut [u8]) -> CachePart
-    requires { 256 ≤ length out.old }
-{
+fn get(n: u64, content: &[u8], part: CachePart, store: &[u8], out: &mut Line) -> CachePart {
     let cache = part.cache;
     let answer = cache.lookup(store, content);
-    if let Lookup::Found = answer {
+    if let Ok(true) = answer {
         let message = cache.get(store, content);
         let found = say_message(n, message, out);
         return with_go(part, found);
@@ -242,10 +208,8 @@ fn call(
     content: &[u8],
     part: CachePart,
     store: &mut [u8],
-    out: &mut [u8],
-) -> CachePart
-    requires { 256 ≤ length out.old }
-{
+    out: &mut Line,
+) -> CachePart {
     match kind {
         7 => put(n, Edition::V11, content, part, store, out),
         8 => shift(n, content, part, store, out),
@@ -261,12 +225,9 @@ pub(crate) fn cache_turn(
     kind: u64,
     content: &[u8],
     part: CachePart,
-    store: &mut [u8],
-    out: &mut [u8],
-) -> CachePart
-    requires in_bounds { 262144 ≤ length store.old }
-    requires in_bounds_2 { 256 ≤ length out.old }
-{
+    store: &mut CacheStore,
+    out: &mut Line,
+) -> CachePart {
     if kind == 6 {
         return begin(n, 12, 0, content, part, out);
     }
@@ -274,8 +235,7 @@ pub(crate) fn cache_turn(
         return begin_flagged(n, content, part, out);
     }
     if part.started {
-        let cache = part.cache;
-        let end = places_len(cache.max_messages);
+        let end = places_len(part.cache.max_messages);
         return call(n, kind, content, part, &mut store[..end], out);
     }
     bad(part)

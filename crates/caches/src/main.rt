@@ -10,12 +10,10 @@ mod cache_part;
 mod say;
 mod seen_part;
 
-ghost use Rattle.std.specs.Prelude.{◌≤◌, length};
-
-use cache_part::{CachePart, cache_turn, no_cache};
-use say::last;
-use seen_part::{SeenPart, no_seen, seen_turn};
-use text::{Header, next_record};
+use cache_part::{CachePart, CacheStore, cache_turn, no_cache};
+use say::Line;
+use seen_part::{SeenPart, SeenStore, no_seen, seen_turn};
+use text::{Header, HeaderError, last, next_record};
 
 // The two parts of a run, and whether to go on.
 #[derive(Clone, Copy)]
@@ -31,14 +29,10 @@ fn play(
     kind: u64,
     content: &[u8],
     run: Run,
-    seen_store: &mut [u8],
-    cache_store: &mut [u8],
-    out: &mut [u8],
-) -> Run
-    requires in_bounds { 33024 ≤ length seen_store.old }
-    requires in_bounds_2 { 262144 ≤ length cache_store.old }
-    requires in_bounds_3 { 256 ≤ length out.old }
-{
+    seen_store: &mut SeenStore,
+    cache_store: &mut CacheStore,
+    out: &mut Line,
+) -> Run {
     let seen = run.seen;
     let cache = run.cache;
     if kind < 6 {
@@ -71,23 +65,17 @@ fn stop(run: Run, word: &[u8]) -> Run {
 // Reads a record and plays it.
 fn turn(
     n: u64,
-    content: &mut [u8],
+    content: &mut [u8; 65600],
     run: Run,
-    seen_store: &mut [u8],
-    cache_store: &mut [u8],
-    out: &mut [u8],
-) -> Run
-    requires in_bounds { 65600 ≤ length content.old }
-    requires in_bounds_2 { 33024 ≤ length seen_store.old }
-    requires in_bounds_3 { 262144 ≤ length cache_store.old }
-    requires in_bounds_4 { 256 ≤ length out.old }
-{
-    let h = next_record(content, 65600);
-    match h {
-        Header::End => stop(run, b""),
-        Header::Bad => stop(run, b"bad\n"),
-        Header::Long => stop(run, b"long\n"),
-        Header::Record { kind, len } => {
+    seen_store: &mut SeenStore,
+    cache_store: &mut CacheStore,
+    out: &mut Line,
+) -> Run {
+    match next_record(content, 65600) {
+        Ok(None) => stop(run, b""),
+        Err(HeaderError::Bad) => stop(run, b"bad\n"),
+        Err(HeaderError::Long) => stop(run, b"long\n"),
+        Ok(Some(Header { kind, len })) => {
             play(n, kind, &content[..len], run, seen_store, cache_store, out)
         }
     }
@@ -104,8 +92,7 @@ fn main() {
         seen: no_seen(),
         cache: no_cache(),
     };
-    let mut n: u64 = 1;
-    while n < u64::MAX && run.go {
+    for n in 1..u64::MAX {
         run = turn(
             n,
             &mut content,
@@ -114,6 +101,8 @@ fn main() {
             &mut cache_store,
             &mut out,
         );
-        n += 1;
+        if !run.go {
+            break;
+        }
     }
 }

@@ -1,11 +1,8 @@
 // Lines of answers. A line that does not fit is cut; none of the program's is so long.
 ghost use Rattle.std.specs.Prelude.{◌≤◌, length};
 
-// Prints the word that ends the run.
-pub(crate) fn last(word: &[u8]) -> bool {
-    io::write_all(1, word);
-    false
-}
+// A line as it is made.
+pub(crate) type Line = [u8; 20000];
 
 // Prints a line of k bytes. Answers whether it was printed.
 pub(crate) fn print_line(out: &[u8], k: usize) -> bool

@@ -2,9 +2,13 @@
 ghost use Rattle.std.specs.Prelude.{◌≤◌, length};
 
 use super::answers::{clean_line, contains_line, insert_line, next_line};
-use super::say::{last, print_line, say};
+use super::say::{Line, print_line, say};
 use seen::SeenCache;
 use seen::told::{told_contains, told_gc, told_insert, told_next};
+use text::last;
+
+// Room for the most rows.
+pub(crate) type SeenStore = [u8; 33024];
 
 #[derive(Clone, Copy)]
 pub(crate) struct SeenPart {
@@ -25,26 +29,11 @@ pub(crate) fn no_seen() -> SeenPart {
 
 // The same part, whether to go on aside.
 fn with_go(part: SeenPart, go: bool) -> SeenPart {
-    let started = part.started;
-    let rows = part.rows;
-    let cache = part.cache;
-    SeenPart {
-        go,
-        started,
-        rows,
-        cache,
-    }
+    SeenPart { go, ..part }
 }
 
 fn with_cache(part: SeenPart, cache: SeenCache, go: bool) -> SeenPart {
-    let started = part.started;
-    let rows = part.rows;
-    SeenPart {
-        go,
-        started,
-        rows,
-        cache,
-    }
+    SeenPart { go, cache, ..part }
 }
 
 fn bad(part: SeenPart) -> SeenPart {
@@ -52,7 +41,7 @@ fn bad(part: SeenPart) -> SeenPart {
 }
 
 // Kind 1.
-fn begin(n: u64, content: &[u8], part: SeenPart, out: &mut [u8]) -> SeenPart {
+fn begin(n: u64, content: &[u8], part: SeenPart, out: &mut Line) -> SeenPart {
     if content.len() != 2 {
         return bad(part);
     }
@@ -69,59 +58,45 @@ fn begin(n: u64, content: &[u8], part: SeenPart, out: &mut [u8]) -> SeenPart {
 }
 
 // Kind 2.
-fn insert(n: u64, content: &[u8], part: SeenPart, store: &mut [u8], out: &mut [u8]) -> SeenPart
-    requires { 256 ≤ length out.old }
-{
+fn insert(n: u64, content: &[u8], part: SeenPart, store: &mut [u8], out: &mut Line) -> SeenPart {
     if content.len() < 18 {
         return bad(part);
     }
     let now = basis::little_at(content, 0, 8);
     let ttl = basis::little_at(content, 8, 8);
     let max = basis::little_at(content, 16, 2) as usize;
-    let cache = part.cache;
-    let r = cache.insert(store, &content[18..], now, ttl, max);
-    let answer = r.answer;
-    let k = insert_line(n, told_insert(answer), out);
+    let r = part.cache.insert(store, &content[18..], now, ttl, max);
+    let k = insert_line(n, told_insert(r.answer), out);
     let go = print_line(out, k);
     with_cache(part, r.cache, go)
 }
 
 // Kind 3.
-fn clean(n: u64, content: &[u8], part: SeenPart, store: &[u8], out: &mut [u8]) -> SeenPart
-    requires { 256 ≤ length out.old }
-{
+fn clean(n: u64, content: &[u8], part: SeenPart, store: &[u8], out: &mut Line) -> SeenPart {
     if content.len() != 8 {
         return bad(part);
     }
     let now = basis::little_at(content, 0, 8);
-    let cache = part.cache;
-    let r = cache.gc(store, now);
-    let answer = r.answer;
-    let k = clean_line(n, told_gc(answer), out);
+    let r = part.cache.gc(store, now);
+    let k = clean_line(n, told_gc(r.answer), out);
     let go = print_line(out, k);
     with_cache(part, r.cache, go)
 }
 
 // Kind 4.
-fn next(n: u64, content: &[u8], part: SeenPart, store: &[u8], out: &mut [u8]) -> SeenPart
-    requires { 256 ≤ length out.old }
-{
+fn next(n: u64, content: &[u8], part: SeenPart, store: &[u8], out: &mut Line) -> SeenPart {
     if content.len() != 0 {
         return bad(part);
     }
-    let cache = part.cache;
-    let answer = cache.next_expiry(store);
+    let answer = part.cache.next_expiry(store);
     let k = next_line(n, told_next(answer), out);
     let go = print_line(out, k);
     with_go(part, go)
 }
 
 // Kind 5.
-fn contains(n: u64, content: &[u8], part: SeenPart, store: &[u8], out: &mut [u8]) -> SeenPart
-    requires { 256 ≤ length out.old }
-{
-    let cache = part.cache;
-    let answer = cache.contains(store, content);
+fn contains(n: u64, content: &[u8], part: SeenPart, store: &[u8], out: &mut Line) -> SeenPart {
+    let answer = part.cache.contains(store, content);
     let k = contains_line(n, told_contains(answer), out);
     let go = print_line(out, k);
     with_go(part, go)
@@ -141,10 +116,8 @@ fn call(
     content: &[u8],
     part: SeenPart,
     store: &mut [u8],
-    out: &mut [u8],
-) -> SeenPart
-    requires { 256 ≤ length out.old }
-{
+    out: &mut Line,
+) -> SeenPart {
     match kind {
         2 => insert(n, content, part, store, out),
         3 => clean(n, content, part, store, out),
@@ -159,12 +132,9 @@ pub(crate) fn seen_turn(
     kind: u64,
     content: &[u8],
     part: SeenPart,
-    store: &mut [u8],
-    out: &mut [u8],
-) -> SeenPart
-    requires in_bounds { 33024 ≤ length store.old }
-    requires in_bounds_2 { 256 ≤ length out.old }
-{
+    store: &mut SeenStore,
+    out: &mut Line,
+) -> SeenPart {
     if kind == 1 {
         return begin(n, content, part, out);
     }

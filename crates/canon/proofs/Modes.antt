@@ -1,6 +1,6 @@
 -- Laws between the modes. Where the first mode accepts a message, its canonical bytes are the same in both, and so are
 -- those of a body, and what is signed of its messages, whatever the bytes are.
-use Rattle.std.specs.Prelude.{ℕ, ◌<◌, ◌≡◌, Bool, true, length}
+use Rattle.std.specs.Prelude.{Ok, ℕ, ◌<◌, ◌≡◌, Bool, true, length}
 use Rattle.std.proofs.Math.Path.{refl, ap₂}
 use Rattle.std.proofs.Common.{sym, ap, ◌∙◌}
 use Rattle.std.proofs.Math.Bool.{cond}
@@ -20,7 +20,6 @@ use Rattle.schema.specs.declared.Held.{Held}
 use Rattle.schema.specs.declared.Held.TheVariants as held
 use Rattle.schema.specs.declared.Role.{Role}
 use Rattle.schema.specs.declared.Role.TheVariants.{Skip, Number, Text, Bytes, Unsigned, Topic, MessageId, Sub}
-use Rattle.schema.specs.declared.Counted.TheVariants.{Records}
 use Rattle.schema.specs.declared.Slots.{Slots}
 use Rattle.schema.specs.Schema.{table, row_of, formed_as, held_of, rank}
 use Rattle.schema.specs.SchemaLaws.{held-rank}
@@ -52,9 +51,9 @@ anew-sub (Sub i form) j h = formed-anew i j form h
 
 -- ---- what is written of each field m, by g in one mode and by h in the other
 module _ (k : Kind) (s : List ℕ) (m : ℕ) (g h : List ℕ → List ℕ)
-    (same : (f : Field) (x : ℕ) → is_bytes m f ≡ true → count_at k s f ≡ Records x → g (value_in s f) ≡ h (value_in s f))
+    (same : (f : Field) (x : ℕ) → is_bytes m f ≡ true → count_at k s f ≡ Ok x → g (value_in s f) ≡ h (value_in s f))
   where
-    each_along_lem : (w : Fields) (n : ℕ) → count_along (counted Plain) k s w ≡ Records n
+    each_along_lem : (w : Fields) (n : ℕ) → count_along (counted Plain) k s w ≡ Ok n
         → each_along g m s w ≡ each_along h m s w
     each_along_lem end n q = refl
     each_along_lem (refused why) n q = refl
@@ -65,13 +64,13 @@ module _ (k : Kind) (s : List ℕ) (m : ℕ) (g h : List ℕ → List ℕ)
         (λ b. ap₂ (λ (x y : List ℕ). cond (is_bytes m f) x [] ++ y) (same f t.0 b t.2) ih)
         (λ b. simp b ih)
 
-    each_same : (n : ℕ) → counted Plain k s ≡ Records n → each_of Groups g m s ≡ each_of Plain h m s
+    each_same : (n : ℕ) → counted Plain k s ≡ Ok n → each_of Groups g m s ≡ each_of Plain h m s
     each_same n q =
         ap (each_along g m s) (same-fields k s n q)
         ∙ each_along_lem (fields_of Plain s) n (sym (count_along_lem Plain k s) ∙ q)
 
 -- ---- a message
-held_same : (k : Kind) (s : List ℕ) (m n : ℕ) (h : Held) → held_of (row_of k m) ≡ h → counted Plain k s ≡ Records n
+held_same : (k : Kind) (s : List ℕ) (m n : ℕ) (h : Held) → held_of (row_of k m) ≡ h → counted Plain k s ≡ Ok n
     → ((j : Kind) → rank j < rank k → SameBytes j)
     → held_part Groups (canon Groups) m s h ≡ held_part Plain (canon Plain) m s h
 unfolding held_part
@@ -94,12 +93,12 @@ same-message =
     ∙ sym (canon-fields Plain k s))
 
 -- what is signed of it
-pub same-signed : (p : List ℕ) (n : ℕ) → counted Plain kind.RawMessage p ≡ Records n → sign_of Groups p ≡ sign_of Plain p
+pub same-signed : (p : List ℕ) (n : ℕ) → counted Plain kind.RawMessage p ≡ Ok n → sign_of Groups p ≡ sign_of Plain p
 unfolding sign_of
 same-signed p n q = ap (λ (x : List ℕ). sign_prefix ++ x) (same-message kind.RawMessage p n q)
 
 -- ---- a body
-module _ (e : Edition) (s : List ℕ) (n : ℕ) (q : counted Plain (kind.Rpc e) s ≡ Records n) where
+module _ (e : Edition) (s : List ℕ) (n : ℕ) (q : counted Plain (kind.Rpc e) s ≡ Ok n) where
   merged-same : merged_of Groups (kind.ControlMessage e) 3 s ≡ merged_of Plain (kind.ControlMessage e) 3 s
   unfolding merged_of entries_of
   merged-same =

@@ -1,8 +1,7 @@
 -- What the writer makes of a body is the canonical encoding of the RPC that the body means.
-use Rattle.std.specs.Prelude.{ℕ, ◌≤◌, ◌≡◌, refl, Bool, true, false, cond, List, [], ◌∷◌, ◌++◌, eqb, length}
+use Rattle.std.specs.Prelude.{Option, Some, None, ℕ, ◌≤◌, ◌≡◌, refl, Bool, true, false, cond, List, [], ◌∷◌, ◌++◌, eqb, length}
 use Rattle.std.proofs.Common.{sym, ap₂, subst, ◌∙◌, append-nil, zero-add}
 use Rattle.std.proofs.Math.Path.{ap}
-use Rattle.std.proofs.Math.Option.{Option, none, some}
 use Rattle.basis.specs.declared.Mode.{Mode}
 use Rattle.basis.specs.declared.Edition.{Edition}
 use Rattle.basis.specs.declared.Edition.TheVariants.{V11, V12}
@@ -104,7 +103,7 @@ module _ (mode : Mode) {X : Type 0} {R : List ℕ → X → Type 0} (j : Kind) (
 -- a slot, and the number
 slot_part : (mode : Mode) (n : ℕ) (s : List ℕ) (k : Kind) (g : Slots → Place) (m : ℕ) (es : List Entry)
     → Body mode s es → Feeds k g m
-    → bytes_at s 0 (g no_slots) ≡ none → placed n s (g (slots_of mode k s)) ≡ optional (bytes_field n) (last (bytes_in m es))
+    → bytes_at s 0 (g no_slots) ≡ None → placed n s (g (slots_of mode k s)) ≡ optional (bytes_field n) (last (bytes_in m es))
 slot_part mode n s k g m es h feed z =
     let w = body_walks mode s es h in
     placed_at n s (g (slots_of mode k s))
@@ -124,8 +123,8 @@ number-part mode figure n s k m es h feed =
 -- ---- each message
 flag-value : (o : Option ℕ) → optional (λ v. varint_field 1 (figured Flag v)) o ≡ optional (λ b. varint_field 1 (flag b))
     (nonzero o)
-flag-value none = refl
-flag-value (some v) = either (eqb v 0) (λ t. simp t) (λ t. simp t)
+flag-value None = refl
+flag-value (Some v) = either (eqb v 0) (λ t. simp t) (λ t. simp t)
 
 canon-sub_opts : (mode : Mode) (s : List ℕ) (x : SubOpts) → IsSubOpts mode s x
     → canon mode kind.SubOpts s ≡ encode_sub_opts x
@@ -266,7 +265,7 @@ control-written : (cs : List ControlMessage) → cond (any cs) (bytes_field 3 (e
     (λ c. bytes_field 3 (encode_control c)) (joined cs)
 control-written cs = of-any (any cs) (joined cs) (joined-flat cs)
   where
-    of-any : (t : Bool) (o : Option ControlMessage) → cond t (some (flat cs)) none ≡ o
+    of-any : (t : Bool) (o : Option ControlMessage) → cond t (Some (flat cs)) None ≡ o
         → cond t (bytes_field 3 (encode_control (flat cs))) [] ≡ optional (λ c. bytes_field 3 (encode_control c)) o
     of-any true o e = ap (optional (λ c. bytes_field 3 (encode_control c))) e
     of-any false o e = ap (optional (λ c. bytes_field 3 (encode_control c))) e

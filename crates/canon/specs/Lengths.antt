@@ -1,7 +1,7 @@
 -- How long encodings are: a smaller number takes no more bytes, and a field no more than the field that it stands for.
-use Rattle.std.specs.Prelude.{ℕ, zero, suc, ◌+◌, ◌*◌, ◌/◌, ◌≤◌, ◌<◌, ◌≡◌, refl, false, List, [], ◌∷◌, ◌++◌, length, ltb, eqb}
+use Rattle.std.specs.Prelude.{Option, Some, None, ℕ, zero, suc, ◌+◌, ◌*◌, ◌/◌, ◌≤◌, ◌<◌, ◌≡◌, refl, false, List, [], ◌∷◌}
+use Rattle.std.specs.Prelude.{◌++◌, length, ltb, eqb}
 use Rattle.std.proofs.Common.{sym, ap, ◌∙◌, arith, length-append, ltb-true, ltb-false, eqb-true, eq-eqb, ne_eqb}
-use Rattle.std.proofs.Math.Option.{Option, none, some}
 use Rattle.basis.specs.Cases.{either}
 use Rattle.peer_id.specs.Uvarint.{uvarint}
 use Rattle.peer_id.specs.Laws.{uvarint-small, uvarint_big, uvarint-some}
@@ -159,8 +159,8 @@ last-bytes m (d ∷ ds) = of-last (last ds) (last-bytes m ds)
   where
     of-last : (o : Option (List ℕ)) → length (optional (bytes_field m) o) ≤ bytes_length m ds
         → length (optional (bytes_field m) (or_else o d)) ≤ length (bytes_field m d) + bytes_length m ds
-    of-last none h = omega arith
-    of-last (some x) h = omega arith
+    of-last None h = omega arith
+    of-last (Some x) h = omega arith
 
 pub last-numbers : (m : ℕ) (f : ℕ → ℕ) → ((v : ℕ) → f v ≤ v) → (vs : List ℕ)
     → length (optional (λ v. varint_field m (f v)) (last vs)) ≤ numbers_length m vs
@@ -169,8 +169,8 @@ last-numbers m f small (v ∷ vs) = of-last (last vs) (last-numbers m f small vs
   where
     of-last : (o : Option ℕ) → length (optional (λ v. varint_field m (f v)) o) ≤ numbers_length m vs
         → length (optional (λ v. varint_field m (f v)) (or_else o v)) ≤ length (varint_field m v) + numbers_length m vs
-    of-last none h = let l = varint_field_mono m (f v) v (small v) in omega arith
-    of-last (some x) h = omega arith
+    of-last None h = let l = varint_field_mono m (f v) v (small v) in omega arith
+    of-last (Some x) h = omega arith
 
 pub all-bytes : (m : ℕ) (ds : List (List ℕ)) → length (repeated (bytes_field m) ds) ≡ bytes_length m ds
 all-bytes m [] = refl

@@ -1,11 +1,11 @@
 -- The message at an index of a body is that message of the RPC that the body means; and where there is none, the number
 -- of messages is told.
-use Rattle.std.specs.Prelude.{ℕ, zero, suc, ◌+◌, ◌≤◌, ◌<◌, ◌≡◌, refl, Bool, cond, List, [], ◌∷◌, length, eqb}
+use Rattle.std.specs.Prelude.{Ok, Err, ℕ, zero, suc, ◌+◌, ◌≤◌, ◌<◌, ◌≡◌, refl, Bool, cond, List, [], ◌∷◌, length, eqb}
 use Rattle.std.proofs.Common.{sym, ap, ap₂, subst, ◌∙◌, arith, eqb-true}
 use Rattle.std.proofs.lemmas.Bool.{eqb-false}
 use Rattle.basis.specs.declared.Mode.{Mode}
 use Rattle.basis.specs.declared.Dialect.{Dialect}
-use Rattle.basis.specs.Cases.{either, clash}
+use Rattle.basis.specs.Cases.{either, clash, of-ok-two}
 use Rattle.protobuf.specs.declared.Field.{Field}
 use Rattle.protobuf.specs.Grammar.{Entry}
 use Rattle.protobuf.specs.Walk.{whole, between, entries_of, is_bytes, value_in}
@@ -13,7 +13,6 @@ use Rattle.protobuf.specs.Exactly.{body_walks}
 use Rattle.rpc.specs.Rpc.{RawMessage, Rpc}
 use Rattle.rpc.specs.Grammar.{bytes_in, Pairs, no_pairs, ◌paired◌, IsMessage, is-message, IsRpc, is-rpc}
 use Rattle.meaning.specs.Entries.{put_bytes_lem}
-use Rattle.ids.specs.declared.MessageAt.TheVariants.{At, Count}
 use Rattle.ids.specs.Ids.{message_along, message_at}
 
 -- x is the element i of a list
@@ -34,7 +33,7 @@ pub raw-is : (mode : Mode) {p : List ℕ} {m : RawMessage} → IsMessage mode p 
 raw-is mode (is-message g u) = refl
 
 -- with n messages passed, the message k further on is the element k of those that are left
-list_at : (s : List ℕ) (fs : List Field) (i n k a e : ℕ) → i ≡ n + k → message_along i n (whole fs) ≡ At a e
+list_at : (s : List ℕ) (fs : List Field) (i n k a e : ℕ) → i ≡ n + k → message_along i n (whole fs) ≡ Ok (a, e)
     → Nth k (bytes_in 2 (entries_of s fs)) (between s a e)
 list_at s [] i n k a e q h = clash (cc)
 list_at s (f ∷ fs) i n k a e q h =
@@ -44,11 +43,10 @@ list_at s (f ∷ fs) i n k a e q h =
     (λ t. subst (λ (l : List (List ℕ)). Nth k l (between s a e))
     (sym (pb ∙ ap (λ (x : Bool). cond x (value_in s f ∷ ds) ds) t))
     (either (eqb n i)
-    (λ u. let g = simp (t, u) at h in
-    let pa : f.start ≡ a = cc in let pe : f.next ≡ e = cc in
+    (λ u. let g = of-ok-two (simp (t, u) at h) in
     let z = eqb-true n i u in
     subst (λ (j : ℕ). Nth j (value_in s f ∷ ds) (between s a e)) (omega arith)
-    (subst (λ (d : List ℕ). Nth 0 (value_in s f ∷ ds) d) (ap₂ (between s) pa pe) here))
+    (subst (λ (d : List ℕ). Nth 0 (value_in s f ∷ ds) d) (ap₂ (between s) g.0 g.1) here))
     (λ u. let g = simp (t, u) at h in
     let z = eqb-false n i u in
     step k (λ j r. list_at s fs i (n + 1) j a e r g) q z)))
@@ -61,7 +59,7 @@ list_at s (f ∷ fs) i n k a e q h =
     step (suc j) r q z = there (r j (omega arith))
 
 -- and where there is none, all are counted
-list_count : (s : List ℕ) (fs : List Field) (i n m : ℕ) → n ≤ i → message_along i n (whole fs) ≡ Count m
+list_count : (s : List ℕ) (fs : List Field) (i n m : ℕ) → n ≤ i → message_along i n (whole fs) ≡ Err m
     → (m ≡ n + length (bytes_in 2 (entries_of s fs))) × (m ≤ i)
 list_count s [] i n m l h = let e : n ≡ m = cc in omega arith
 list_count s (f ∷ fs) i n m l h =
@@ -92,7 +90,7 @@ pairs-length mode no_pairs = refl
 pairs-length mode (p paired ps) = ap suc (pairs-length mode ps)
 
 -- the message that is found is that of the RPC
-pub message-found : {d : Dialect} {s : List ℕ} {x : Rpc} (i a e : ℕ) → IsRpc d s x → message_at d.mode s i ≡ At a e
+pub message-found : {d : Dialect} {s : List ℕ} {x : Rpc} (i a e : ℕ) → IsRpc d s x → message_at d.mode s i ≡ Ok (a, e)
     → (m : RawMessage) × (Nth i x.publish m) × (IsMessage d.mode (between s a e) m)
 unfolding message_at
 message-found {d} i a e (is-rpc {s = s} {es = es} g h1 h2 h3) q =
@@ -101,7 +99,7 @@ message-found {d} i a e (is-rpc {s = s} {es = es} g h1 h2 h3) q =
     pairs_nth d.mode h2 (subst (λ (l : List Entry). Nth i (bytes_in 2 l) (between s a e)) w.entries n)
 
 -- where none is found, the RPC has no message at the index, and its messages are counted
-pub message-missing : {d : Dialect} {s : List ℕ} {x : Rpc} (i n : ℕ) → IsRpc d s x → message_at d.mode s i ≡ Count n
+pub message-missing : {d : Dialect} {s : List ℕ} {x : Rpc} (i n : ℕ) → IsRpc d s x → message_at d.mode s i ≡ Err n
     → (n ≡ length x.publish) × (length x.publish ≤ i)
 unfolding message_at
 message-missing {d} i n (is-rpc {s = s} {es = es} g h1 h2 h3) q =

@@ -1,7 +1,6 @@
 -- The canonical bytes of an RPC are never longer than a body that means it.
-use Rattle.std.specs.Prelude.{ℕ, ◌+◌, ◌≤◌, ◌≡◌, refl, not, List, [], ◌∷◌, ◌++◌, length, eqb}
+use Rattle.std.specs.Prelude.{Option, Some, None, ℕ, ◌+◌, ◌≤◌, ◌≡◌, refl, not, List, [], ◌∷◌, ◌++◌, length, eqb}
 use Rattle.std.proofs.Common.{sym, ap, ◌∙◌, append_assoc, arith, length-append}
-use Rattle.std.proofs.Math.Option.{Option, none, some}
 use Rattle.std.proofs.lemmas.Bool.{eqb-false}
 use Rattle.basis.specs.declared.Mode.{Mode}
 use Rattle.basis.specs.declared.Edition.{Edition}
@@ -32,8 +31,8 @@ one-small v = either (eqb v 0) (λ t. simp t (omega arith)) (λ t. let z = eqb-f
 
 flag-nonzero : (o : Option ℕ) → optional (λ b. varint_field 1 (flag b)) (nonzero o) ≡ optional
     (λ v. varint_field 1 (one_if_some v)) o
-flag-nonzero none = refl
-flag-nonzero (some v) = refl
+flag-nonzero None = refl
+flag-nonzero (Some v) = refl
 
 pub sub_opts_shorter : (mode : Mode) (s : List ℕ) (x : SubOpts) → IsSubOpts mode s x
     → length (encode_sub_opts x) ≤ length s
@@ -168,8 +167,8 @@ field-sum n x y z e =
 join-field : (c : ControlMessage) (o : Option ControlMessage)
     → length (optional (λ c. bytes_field 3 (encode_control c)) (join_to c o)) ≤ length (bytes_field 3 (encode_control c))
     + length (optional (λ c. bytes_field 3 (encode_control c)) o)
-join-field c none = omega arith
-join-field c (some d) = field-sum 3 (encode_control c) (encode_control d) (encode_control (join c d)) (join-length c d)
+join-field c None = omega arith
+join-field c (Some d) = field-sum 3 (encode_control c) (encode_control d) (encode_control (join c d)) (join-length c d)
 
 joined-field : (cs : List ControlMessage) → length (optional (λ c. bytes_field 3 (encode_control c)) (joined cs)) ≤ length
     (repeated (λ c. bytes_field 3 (encode_control c)) cs)

@@ -3,9 +3,9 @@
 -- where groups are passed over, or by 11, and nothing is changed; or it means an RPC within capacity. Then `encode`
 -- writes that RPC, `sign_bytes` what is signed of its message i, `message_id` and `seen_message_id` that message's id;
 -- 20 where there is no message i; 12 where there is no room.
-use Rattle.std.specs.Prelude.{ℕ, ◌+◌, ◌-◌, ◌≤◌, ◌<◌, ◌≡◌, refl, ◌||◌, List, [], ◌∷◌, ◌++◌, ◌↔◌, length, ltb, leb, eqb}
+use Rattle.std.specs.Prelude.{Option, Some, Result, Ok, Err, ℕ, ◌-◌, ◌≤◌, ◌<◌, ◌≡◌, refl, ◌||◌, List, [], ◌∷◌, ◌++◌}
+use Rattle.std.specs.Prelude.{◌↔◌, length, ltb, leb, eqb}
 use Rattle.std.proofs.Common.{sym, ap, ap₂, subst, ◌∙◌, arith, zero-add, leb-true, leb-false, le-leb}
-use Rattle.std.proofs.Math.Option.{Option, some}
 use Rattle.std.proofs.Math.ListN.{drop}
 use Rattle.std.proofs.lemmas.Bool.{lt-leb}
 use Rattle.basis.specs.declared.Mode.{Mode}
@@ -13,15 +13,11 @@ use Rattle.basis.specs.declared.Dialect.{Dialect}
 use Rattle.basis.specs.Cases.{either}
 use Rattle.basis.specs.Bytes.{Bytes}
 use Rattle.basis.specs.Lists.{answer-fits, answer-short}
-use Rattle.basis.specs.Writing.{answer, written}
+use Rattle.basis.specs.Writing.{answer, written, no_room}
 use Rattle.basis.specs.declared.Told.{Told}
 use Rattle.basis.specs.Refusals.{no-message, missing-from, invalid_from, invalid_seqno, short-room}
 use Rattle.basis.specs.Told.{told, done}
-use Rattle.basis.specs.declared.Written.{Written}
-use Rattle.basis.specs.declared.Written.TheVariants as wrote
 use Rattle.protobuf.specs.declared.Refusal.{Refusal as Placed}
-use Rattle.protobuf.specs.declared.Checked.{Checked}
-use Rattle.protobuf.specs.declared.Checked.TheVariants.{Fine, Refused as Wrong}
 use Rattle.protobuf.specs.Told.{refusal_told, encoded_told}
 use Rattle.protobuf.specs.Encode.{of_written}
 use Rattle.protobuf.specs.Walk.{between}
@@ -30,6 +26,9 @@ use Rattle.protobuf.specs.Exactly.{body_walks}
 use Rattle.schema.specs.declared.Kind.TheVariants as kind
 use Rattle.schema.specs.declared.Place.{Place}
 use Rattle.schema.specs.declared.Place.TheVariants as place
+use Rattle.basis.specs.declared.ShortRoom.{ShortRoom}
+use Rattle.ids.specs.declared.IdError.TheVariants as noid
+use Rattle.ids.specs.declared.IdError.{IdError}
 use Rattle.schema.specs.Accept.{accept_of}
 use Rattle.schema.specs.Slots.{slots_of}
 use Rattle.schema.specs.SlotsLaws.{PlaceInside}
@@ -41,10 +40,6 @@ use Rattle.rpc.specs.Id.{Id, no-from, bad-from, bad-seqno, id, with_seqno, with_
 use Rattle.meaning.specs.ReadBack.{bytes_at}
 use Rattle.meaning.specs.Back.{message-from, message-seqno, slot_value, whole_part}
 use Rattle.meaning.specs.Decoded.{Within, Refusal, Gated, refusal_gated, gated_bound, refusal-within}
-use Rattle.ids.specs.declared.MessageAt.{MessageAt}
-use Rattle.ids.specs.declared.MessageAt.TheVariants.{At, Count}
-use Rattle.ids.specs.declared.MessageId.{MessageId}
-use Rattle.ids.specs.declared.MessageId.TheVariants as parts
 use Rattle.ids.specs.Told.{message_told}
 use Rattle.ids.specs.Ids.{message_at, on_seqno, on_from, id_parts, of_written as message, answer_id, left_id, answer_at, left_at}
 use Rattle.ids.specs.Ids.{answer_checked, left_checked, id_answer, id_left}
@@ -94,8 +89,8 @@ abbrev pub Identifies : List ℕ → Dialect → List ℕ → ℕ → List ℕ �
 Identifies pre d s i out = Given d s out (λ x. OfMessage i x.publish out (λ m. WritesId pre out (message_id m)))
 
 -- ---- a writer
-module _ (tell : Written → Told) (tell-bytes : (n : ℕ) → tell (wrote.Bytes n) ≡ done (n ∷ []))
-    (tell-room : (n : ℕ) → tell (wrote.Room n) ≡ told short-room (n ∷ [])) (xs out : List ℕ) where
+module _ (tell : Result ℕ ShortRoom → Told) (tell-bytes : (n : ℕ) → tell (Ok n) ≡ done (n ∷ []))
+    (tell-room : (n : ℕ) → tell (Err (no_room n)) ≡ told short-room (n ∷ [])) (xs out : List ℕ) where
   pub writes : Writes xs out (tell (answer xs out)) (written xs out)
   unfolding answer written
   writes =
@@ -110,16 +105,16 @@ module _ (tell : Written → Told) (tell-bytes : (n : ℕ) → tell (wrote.Bytes
   writes-only (short h) = (ap tell (answer-short xs out h) ∙ tell-room (length xs), simp (lt-leb _ _ h))
 
 -- ---- a call that is given a body, by what it tells and leaves for each outcome of the one test
-module _ (d : Dialect) (s out : List ℕ) (b : Bytes s) (R : Rpc → Told → List ℕ → Type 0) (tell : Checked → Told)
-    (left : Checked → List ℕ) (tell-wrong : (why : Placed) → tell (Wrong why) ≡ refusal_told why)
-    (left-wrong : (why : Placed) → left (Wrong why) ≡ out)
-    (fine : (x : Rpc) → Within d s x → R x (tell Fine) (left Fine)) where
-  given : (c : Checked) → accept_of d s ≡ c → Given d s out R (tell c) (left c)
-  given (Wrong why) e =
-      subst (λ (a : Told). Given d s out R a (left (Wrong why))) (sym (tell-wrong why))
+module _ (d : Dialect) (s out : List ℕ) (b : Bytes s) (R : Rpc → Told → List ℕ → Type 0) (tell : Result (Unit {0}) Placed → Told)
+    (left : Result (Unit {0}) Placed → List ℕ) (tell-wrong : (why : Placed) → tell (Err why) ≡ refusal_told why)
+    (left-wrong : (why : Placed) → left (Err why) ≡ out)
+    (fine : (x : Rpc) → Within d s x → R x (tell (Ok tt)) (left (Ok tt))) where
+  given : (c : Result (Unit {0}) Placed) → accept_of d s ≡ c → Given d s out R (tell c) (left c)
+  given (Err why) e =
+      subst (λ (a : Told). Given d s out R a (left (Err why))) (sym (tell-wrong why))
       (subst (λ (l : List ℕ). Given d s out R (refusal_told why) l) (sym (left-wrong why))
       (refuses ((refused-exactly d s (refusal_told why) b).0 (why, e, refl))))
-  given Fine e = let w = (taken-exactly d s b).0 e in takes w.1 (fine w.0 w.1)
+  given (Ok tt) e = let w = (taken-exactly d s b).0 e in takes w.1 (fine w.0 w.1)
 
   -- it is 0, 12 or more exactly where the body means an RPC within capacity
   given-takes : ((x : Rpc) (a : Told) (l : List ℕ) → R x a l → Gated d.mode a.number → ⊥)
@@ -135,7 +130,7 @@ module _ (d : Dialect) (s out : List ℕ) (b : Bytes s) (R : Rpc → Told → Li
       back w g (refuses r) = refusal-within r w
       back {a = a} {l = l} w g (takes {x} v r) = other x a l r g
 
-  given-exactly : ((x : Rpc) (a : Told) (l : List ℕ) → Within d s x → R x a l → (tell Fine ≡ a) × (left Fine ≡ l))
+  given-exactly : ((x : Rpc) (a : Told) (l : List ℕ) → Within d s x → R x a l → (tell (Ok tt) ≡ a) × (left (Ok tt) ≡ l))
       → (a : Told) (l : List ℕ) → ((tell (accept_of d s) ≡ a) × (left (accept_of d s) ≡ l)) ↔ Given d s out R a l
   given-exactly only a l = (
     λ p. subst (λ (z : Told). Given d s out R z l) p.0
@@ -190,37 +185,37 @@ encode_takes d s out b =
 
 -- ---- the message at an index
 -- where message i of the RPC stands in the body
-pub found_in : {d : Dialect} {s : List ℕ} {x : Rpc} {m : RawMessage} (i : ℕ) (r : MessageAt) → IsRpc d s x
+pub found_in : {d : Dialect} {s : List ℕ} {x : Rpc} {m : RawMessage} (i : ℕ) (r : Result (ℕ × ℕ) ℕ) → IsRpc d s x
     → Nth i x.publish m → message_at d.mode s i ≡ r
-    → (a : ℕ) × (e : ℕ) × (message_at d.mode s i ≡ At a e) × (IsMessage d.mode (between s a e) m)
-found_in {d} {s} i (At a e) g n q =
+    → (a : ℕ) × (e : ℕ) × (message_at d.mode s i ≡ Ok (a, e)) × (IsMessage d.mode (between s a e) m)
+found_in {d} {s} i (Ok (a, e)) g n q =
     let f = message-found i a e g q in
     (a, e, q, subst (λ (y : RawMessage). IsMessage d.mode (between s a e) y) (nth_same f.1 n) f.2)
-found_in i (Count k) g n q = let l = message-missing i k g q in let b = nth_bound n in absurd (omega arith)
+found_in i (Err k) g n q = let l = message-missing i k g q in let b = nth_bound n in absurd (omega arith)
 
-pub none_in : {d : Dialect} {s : List ℕ} {x : Rpc} (i : ℕ) (r : MessageAt) → IsRpc d s x
-    → length x.publish ≤ i → message_at d.mode s i ≡ r → message_at d.mode s i ≡ Count (length x.publish)
-none_in i (At a e) g l q = let f = message-found i a e g q in let b = nth_bound f.1 in absurd (omega arith)
-none_in i (Count k) g l q = let m = message-missing i k g q in q ∙ ap Count m.0
+pub none_in : {d : Dialect} {s : List ℕ} {x : Rpc} (i : ℕ) (r : Result (ℕ × ℕ) ℕ) → IsRpc d s x
+    → length x.publish ≤ i → message_at d.mode s i ≡ r → message_at d.mode s i ≡ Err (length x.publish)
+none_in i (Ok (a, e)) g l q = let f = message-found i a e g q in let b = nth_bound f.1 in absurd (omega arith)
+none_in i (Err k) g l q = let m = message-missing i k g q in q ∙ ap Err m.0
 
 -- by what is told and left for each outcome of the search for message i
 module _ {d : Dialect} {s : List ℕ} {x : Rpc} (w : Within d s x) (i : ℕ) (out : List ℕ)
-    (R : RawMessage → Told → List ℕ → Type 0) (tell : MessageAt → Told) (left : MessageAt → List ℕ)
-    (tell_None : (n : ℕ) → tell (Count n) ≡ told no-message (n ∷ [])) (left-none : (n : ℕ) → left (Count n) ≡ out) where
+    (R : RawMessage → Told → List ℕ → Type 0) (tell : Result (ℕ × ℕ) ℕ → Told) (left : Result (ℕ × ℕ) ℕ → List ℕ)
+    (tell_None : (n : ℕ) → tell (Err n) ≡ told no-message (n ∷ [])) (left-none : (n : ℕ) → left (Err n) ≡ out) where
   of-message : ((a e : ℕ) (m : RawMessage) → IsMessage d.mode (between s a e) m
-      → R m (tell (At a e)) (left (At a e)))
-      → (r : MessageAt) → message_at d.mode s i ≡ r → OfMessage i x.publish out R (tell r) (left r)
-  of-message fine (At a e) q = let f = message-found i a e w.means q in such f.1 (fine a e f.0 f.2)
-  of-message fine (Count n) q =
+      → R m (tell (Ok (a, e))) (left (Ok (a, e))))
+      → (r : Result (ℕ × ℕ) ℕ) → message_at d.mode s i ≡ r → OfMessage i x.publish out R (tell r) (left r)
+  of-message fine (Ok (a, e)) q = let f = message-found i a e w.means q in such f.1 (fine a e f.0 f.2)
+  of-message fine (Err n) q =
       let m = message-missing i n w.means q in
-      subst (λ (z : Told). OfMessage i x.publish out R z (left (Count n)))
+      subst (λ (z : Told). OfMessage i x.publish out R z (left (Err n)))
       (sym (tell_None n ∙ ap (λ (k : ℕ). told no-message (k ∷ [])) m.0))
       (subst (λ (l : List ℕ). OfMessage i x.publish out R (told no-message (length x.publish ∷ [])) l)
       (sym (left-none n)) (no_such m.1))
 
   of-message-only : {z : Told} {l : List ℕ}
       → ((a e : ℕ) (m : RawMessage) → IsMessage d.mode (between s a e) m → R m z l
-      → (tell (At a e) ≡ z) × (left (At a e) ≡ l)) → OfMessage i x.publish out R z l
+      → (tell (Ok (a, e)) ≡ z) × (left (Ok (a, e)) ≡ l)) → OfMessage i x.publish out R z l
       → (tell (message_at d.mode s i) ≡ z) × (left (message_at d.mode s i) ≡ l)
   of-message-only only (no_such h) =
       let f = none_in i (message_at d.mode s i) w.means h refl in
@@ -277,31 +272,31 @@ sign_takes d s i out b =
     (λ x. sign_fine i out) (λ x z k. of-message_other (λ m y j. writes_other))
 
 -- ---- message_id and seen_message_id, with what stands before the id
-abbrev to_id : List ℕ → MessageId → Id
-to_id p parts.MissingFrom = no-from
-to_id p (parts.InvalidFrom n) = bad-from n
-to_id p parts.InvalidSeqno = bad-seqno
-to_id p (parts.Parts a e b f) = id (between p a e ++ between p b f)
+abbrev to_id : List ℕ → Result ((ℕ × ℕ) × (ℕ × ℕ)) IdError → Id
+to_id p (Err noid.MissingFrom) = no-from
+to_id p (Err (noid.InvalidFrom n)) = bad-from n
+to_id p (Err noid.InvalidSeqno) = bad-seqno
+to_id p (Ok ((a, e), (b, f))) = id (between p a e ++ between p b f)
 
-id-gives : (pre p out : List ℕ) (r : MessageId)
+id-gives : (pre p out : List ℕ) (r : Result ((ℕ × ℕ) × (ℕ × ℕ)) IdError)
     → WritesId pre out (to_id p r) (message_told (answer_id pre p out r)) (left_id pre p out r)
-id-gives pre p out parts.MissingFrom = from-missing
-id-gives pre p out (parts.InvalidFrom n) = from_invalid
-id-gives pre p out parts.InvalidSeqno = seqno_invalid
-id-gives pre p out (parts.Parts a e b f) =
+id-gives pre p out (Err noid.MissingFrom) = from-missing
+id-gives pre p out (Err (noid.InvalidFrom n)) = from_invalid
+id-gives pre p out (Err noid.InvalidSeqno) = seqno_invalid
+id-gives pre p out (Ok ((a, e), (b, f))) =
     writes-id (writes (λ z. message_told (message z)) (λ n. refl) (λ n. refl)
     (pre ++ (between p a e ++ between p b f)) out)
 
-id-only : (pre p out : List ℕ) (r : MessageId) {t : Told} {l : List ℕ} → WritesId pre out (to_id p r) t l
+id-only : (pre p out : List ℕ) (r : Result ((ℕ × ℕ) × (ℕ × ℕ)) IdError) {t : Told} {l : List ℕ} → WritesId pre out (to_id p r) t l
     → (message_told (answer_id pre p out r) ≡ t) × (left_id pre p out r ≡ l)
-id-only pre p out parts.MissingFrom from-missing = (refl, refl)
-id-only pre p out (parts.InvalidFrom n) from_invalid = (refl, refl)
-id-only pre p out parts.InvalidSeqno seqno_invalid = (refl, refl)
-id-only pre p out (parts.Parts a e b f) (writes-id r) =
+id-only pre p out (Err noid.MissingFrom) from-missing = (refl, refl)
+id-only pre p out (Err (noid.InvalidFrom n)) from_invalid = (refl, refl)
+id-only pre p out (Err noid.InvalidSeqno) seqno_invalid = (refl, refl)
+id-only pre p out (Ok ((a, e), (b, f))) (writes-id r) =
     writes-only (λ z. message_told (message z)) (λ n. refl) (λ n. refl) (pre ++ (between p a e ++ between p b f)) out r
 
-bytes-there : (p : List ℕ) (a e : ℕ) → bytes_at p 0 (place.Present a e) ≡ some (between p a e)
-bytes-there p a e = ap₂ (λ (x y : ℕ). some (between p x y)) (zero-add a) (zero-add e)
+bytes-there : (p : List ℕ) (a e : ℕ) → bytes_at p 0 (place.Present a e) ≡ Some (between p a e)
+bytes-there p a e = ap₂ (λ (x y : ℕ). Some (between p x y)) (zero-add a) (zero-add e)
 
 seqno-same : (p : List ℕ) (a e : ℕ) (q : Place) → PlaceInside p q
     → to_id p (on_seqno a e q) ≡ with_seqno (between p a e) (bytes_at p 0 q)
@@ -334,7 +329,7 @@ id_same mode (is-message {s = p} {es = es} g u) =
 
 -- by the places of from and seqno
 pub id-named : (mode : Mode) {p : List ℕ} {m : RawMessage} (a e b f : ℕ) → IsMessage mode p m
-    → id_parts mode p ≡ parts.Parts a e b f
+    → id_parts mode p ≡ Ok ((a, e), (b, f))
     → message_id m ≡ id (between p a e ++ between p b f)
 id-named mode {p} a e b f i q = sym (id_same mode i) ∙ ap (to_id p) q
 

@@ -1,15 +1,15 @@
 -- Re-encoding is canonical: for every body that is well formed and within capacity its output is accepted and means the
 -- same RPC, is never longer, does not change when it is re-encoded, and is the same for every body that means that RPC;
 -- and given room it always succeeds.
-use Rattle.std.specs.Prelude.{ℕ, ◌≤◌, ◌≡◌, List, [], ◌∷◌, ◌++◌, length, drop}
+use Rattle.std.specs.Prelude.{Result, ℕ, ◌≤◌, ◌≡◌, List, [], ◌∷◌, ◌++◌, length, drop}
 use Rattle.std.proofs.Common.{sym, subst, ◌∙◌, arith, le-leb}
 use Rattle.std.proofs.Math.Path.{ap}
 use Rattle.basis.specs.declared.Dialect.{Dialect}
+use Rattle.basis.specs.declared.ShortRoom.{ShortRoom}
+use Rattle.protobuf.specs.declared.Refusal.{Refusal}
 use Rattle.basis.specs.Lists.{answer-fits}
 use Rattle.basis.specs.Told.{done}
 use Rattle.basis.specs.Writing.{written}
-use Rattle.basis.specs.declared.Written.{Written}
-use Rattle.protobuf.specs.declared.Checked.{Checked}
 use Rattle.protobuf.specs.Told.{encoded_told}
 use Rattle.protobuf.specs.Encode.{of_written}
 use Rattle.rpc.specs.Rpc.{Rpc}
@@ -42,8 +42,8 @@ module _ {d : Dialect} {s : List ℕ} {x : Rpc} (w : Within d s x) where
       × (encode_left d s out ≡ canon_body d s ++ drop (length (canon_body d s)) out)
   unfolding encode_answer encode_left written
   output_succeeds out r = (
-    ap (λ (c : Checked). encoded_told (encode_checked d s out c)) (taken w)
-        ∙ ap (λ (z : Written). encoded_told (of_written z)) (answer-fits (canon_body d s) out r),
+    ap (λ (c : Result (Unit {0}) Refusal). encoded_told (encode_checked d s out c)) (taken w)
+        ∙ ap (λ (z : Result ℕ ShortRoom). encoded_told (of_written z)) (answer-fits (canon_body d s) out r),
     ap (encoded_checked d s out) (taken w) ∙ simp (le-leb (length (canon_body d s)) (length out) r),
   )
 

@@ -1,15 +1,14 @@
 -- Where no control of a body has a length-delimited field 5, `encode`, `sign_bytes`, `message_id` and `seen_message_id`
 -- answer and leave the same in both editions, whatever the bytes are. A body that 1.2 takes has in 1.1 the same sign
 -- bytes and ids, with or without such a field. All this holds in either mode.
-use Rattle.std.specs.Prelude.{ℕ, ◌≡◌, refl, false, List}
+use Rattle.std.specs.Prelude.{Result, Ok, Err, ℕ, ◌≡◌, refl, false, List}
 use Rattle.std.proofs.Common.{sym, ap, ◌∙◌}
 use Rattle.basis.specs.declared.Mode.{Mode}
 use Rattle.basis.specs.declared.Edition.{Edition}
 use Rattle.basis.specs.declared.Edition.TheVariants.{V11, V12}
+use Rattle.protobuf.specs.declared.Refusal.{Refusal}
 use Rattle.basis.specs.Dialect.{spoken}
 use Rattle.basis.specs.Writing.{answer, written}
-use Rattle.protobuf.specs.declared.Checked.{Checked}
-use Rattle.protobuf.specs.declared.Checked.TheVariants.{Fine, Refused as Wrong}
 use Rattle.protobuf.specs.Encode.{of_written}
 use Rattle.schema.specs.Accept.{accept_of}
 use Rattle.ids.specs.Ids.{answer_checked, left_checked, id_answer, id_left}
@@ -19,11 +18,11 @@ use Rattle.meaning.specs.Editions.{declines, same_accept, older_accept}
 use Rattle.canon.proofs.Editions.{same-canon}
 
 -- ---- encode
-encode_same : (mode : Mode) (c e : Edition) (s out : List ℕ) (r : Checked) → declines mode s ≡ false
+encode_same : (mode : Mode) (c e : Edition) (s out : List ℕ) (r : Result (Unit {0}) Refusal) → declines mode s ≡ false
     → (encode_checked (spoken mode c) s out r ≡ encode_checked (spoken mode e) s out r)
     × (encoded_checked (spoken mode c) s out r ≡ encoded_checked (spoken mode e) s out r)
-encode_same mode c e s out (Wrong why) h = (refl, refl)
-encode_same mode c e s out Fine h = (
+encode_same mode c e s out (Err why) h = (refl, refl)
+encode_same mode c e s out (Ok tt) h = (
   ap (λ (xs : List ℕ). of_written (answer xs out)) (same-canon mode c e s h),
   ap (λ (xs : List ℕ). written xs out) (same-canon mode c e s h),
 )
@@ -63,16 +62,16 @@ pub same_id : (mode : Mode) (pre : List ℕ) (c e : Edition) (s : List ℕ) (i :
 same_id mode pre c e s i out h = ids-by mode pre c e s i out (same_accept mode c e s h)
 
 -- ---- a body that 1.2 takes
-older-same : (mode : Mode) (s : List ℕ) → accept_of (spoken mode V12) s ≡ Fine
+older-same : (mode : Mode) (s : List ℕ) → accept_of (spoken mode V12) s ≡ Ok tt
     → accept_of (spoken mode V11) s ≡ accept_of (spoken mode V12) s
 older-same mode s h = older_accept mode s h ∙ sym h
 
-pub older_sign : (mode : Mode) (s : List ℕ) (i : ℕ) (out : List ℕ) → accept_of (spoken mode V12) s ≡ Fine
+pub older_sign : (mode : Mode) (s : List ℕ) (i : ℕ) (out : List ℕ) → accept_of (spoken mode V12) s ≡ Ok tt
     → (sign_answer (spoken mode V11) s i out ≡ sign_answer (spoken mode V12) s i out)
     × (sign_left (spoken mode V11) s i out ≡ sign_left (spoken mode V12) s i out)
 older_sign mode s i out h = signs-by mode V11 V12 s i out (older-same mode s h)
 
-pub older-id : (mode : Mode) (pre s : List ℕ) (i : ℕ) (out : List ℕ) → accept_of (spoken mode V12) s ≡ Fine
+pub older-id : (mode : Mode) (pre s : List ℕ) (i : ℕ) (out : List ℕ) → accept_of (spoken mode V12) s ≡ Ok tt
     → (id_answer pre (spoken mode V11) s i out ≡ id_answer pre (spoken mode V12) s i out)
     × (id_left pre (spoken mode V11) s i out ≡ id_left pre (spoken mode V12) s i out)
 older-id mode pre s i out h = ids-by mode pre V11 V12 s i out (older-same mode s h)

@@ -1,7 +1,7 @@
 -- The canonical bytes of an RPC mean it, and hold no groups but those in its messages.
-use Rattle.std.specs.Prelude.{ℕ, suc, ◌+◌, ◌*◌, ◌^◌, ◌≤◌, ◌<◌, ◌≡◌, refl, Bool, true, false, cond, List, [], ◌∷◌, ◌++◌, length, eqb}
+use Rattle.std.specs.Prelude.{Option, Some, None, ℕ, suc, ◌+◌, ◌*◌, ◌^◌, ◌≤◌, ◌<◌, ◌≡◌, refl, Bool, true, false, cond, List}
+use Rattle.std.specs.Prelude.{[], ◌∷◌, ◌++◌, length, eqb}
 use Rattle.std.proofs.Common.{sym, ap, ap₂, subst, ◌∙◌, append_assoc, append-nil, arith, length-append, eq-eqb}
-use Rattle.std.proofs.Math.Option.{Option, none, some}
 use Rattle.basis.specs.declared.Mode.{Mode}
 use Rattle.basis.specs.declared.Edition.{Edition}
 use Rattle.basis.specs.declared.Edition.TheVariants.{V11, V12}
@@ -128,20 +128,20 @@ no-numbers n m (d ∷ ds) = no-numbers n m ds
 
 -- ---- an optional field is a list of at most one
 abbrev pub opt : {A : Type 0} → Option A → List A
-opt none = []
-opt (some x) = x ∷ []
+opt None = []
+opt (Some x) = x ∷ []
 
 pub optional-opt : {A : Type 0} (f : A → List ℕ) (o : Option A) → repeated f (opt o) ≡ optional f o
-optional-opt f none = refl
-optional-opt f (some x) = append-nil (f x)
+optional-opt f None = refl
+optional-opt f (Some x) = append-nil (f x)
 
 pub last-opt : {A : Type 0} (o : Option A) → last (opt o) ≡ o
-last-opt none = refl
-last-opt (some x) = refl
+last-opt None = refl
+last-opt (Some x) = refl
 
 each-opt-step : {A : Type 0} {P : A → Type 0} (o : Option A) (x : A) → P x → Each P (opt o) → Each P (opt (or_else o x))
-each-opt-step none x p ps = p and none_left
-each-opt-step (some y) x p ps = ps
+each-opt-step None x p ps = p and none_left
+each-opt-step (Some y) x p ps = ps
 
 pub each_last : {A : Type 0} {P : A → Type 0} {xs : List A} → Each P xs → Each P (opt (last xs))
 each_last none_left = none_left
@@ -225,22 +225,22 @@ counted : (m : ℕ) (a b : List Entry) (xs ys : List ℕ) → numbers_in m a ≡
 counted m a b xs ys p q = numbers-append m a b ∙ ap₂ (λ (x y : List ℕ). x ++ y) p q
 
 abbrev flags : Option Bool → Option ℕ
-flags none = none
-flags (some b) = some (flag b)
+flags None = None
+flags (Some b) = Some (flag b)
 
 flags-small : (o : Option Bool) → Each Small (opt (flags o))
-flags-small none = none_left
-flags-small (some true) = let k : Small 1 = omega arith in k and none_left
-flags-small (some false) = let k : Small 0 = omega arith in k and none_left
+flags-small None = none_left
+flags-small (Some true) = let k : Small 1 = omega arith in k and none_left
+flags-small (Some false) = let k : Small 0 = omega arith in k and none_left
 
 flags-back : (o : Option Bool) → nonzero (flags o) ≡ o
-flags-back none = refl
-flags-back (some true) = refl
-flags-back (some false) = refl
+flags-back None = refl
+flags-back (Some true) = refl
+flags-back (Some false) = refl
 
 flags-written : (o : Option Bool) → repeated (varint_field 1) (opt (flags o)) ≡ optional (λ b. varint_field 1 (flag b)) o
-flags-written none = refl
-flags-written (some b) = append-nil (varint_field 1 (flag b))
+flags-written None = refl
+flags-written (Some b) = append-nil (varint_field 1 (flag b))
 
 -- the encoding of a value means it, in either mode, where its texts are UTF-8, its bytes fit a length and its numbers
 -- are below 2^64; so it does where a body means the value in one of the modes
@@ -540,8 +540,8 @@ control-sound d x o =
 -- ---- several controls as one
 sound-join_to : (d : Dialect) (c : ControlMessage) (o : Option ControlMessage) → Sound d c → Each (Sound d) (opt o)
     → Each (Sound d) (opt (join_to c o))
-sound-join_to d c none p none_left = p and none_left
-sound-join_to d c (some b) p (q and none_left) = sound-join d c b p q and none_left
+sound-join_to d c None p none_left = p and none_left
+sound-join_to d c (Some b) p (q and none_left) = sound-join d c b p q and none_left
 
 sound-joined : (d : Dialect) (to : Mode) {ps : List (List ℕ)} {cs : List ControlMessage} → Pairs (IsControl d) ps cs
     → Each (Sound (spoken to d.edition)) (opt (joined cs))
@@ -551,12 +551,12 @@ sound-joined d to (◌paired◌ {x = s} {y = c} {ys = cs} p ps) =
 
 pairs-sound : (d : Dialect) (o : Option ControlMessage) → Each (Sound d) (opt o)
     → Pairs (IsControl d) (encodings encode_control (opt o)) (opt o)
-pairs-sound d none h = no_pairs
-pairs-sound d (some c) (p and none_left) = control-sound d c p paired no_pairs
+pairs-sound d None h = no_pairs
+pairs-sound d (Some c) (p and none_left) = control-sound d c p paired no_pairs
 
 joined-opt : (o : Option ControlMessage) → joined (opt o) ≡ o
-joined-opt none = refl
-joined-opt (some c) = refl
+joined-opt None = refl
+joined-opt (Some c) = refl
 
 -- ---- the RPC
 message_canonical : (mode : Mode) (d : List ℕ) (m : RawMessage) → IsMessage mode d m → IsMessage mode m.raw m
@@ -564,8 +564,8 @@ message_canonical mode _ _ (is-message g u) = is-message g u
 
 control-sized : (o : Option ControlMessage) → length (optional (λ c. bytes_field 3 (encode_control c)) o) < 2 ^ 64
     → Each Sized (encodings encode_control (opt o))
-control-sized none h = none_left
-control-sized (some c) h = let k : Sized (encode_control c) = omega (arith, bytes_field-length 3 (encode_control c)) in
+control-sized None h = none_left
+control-sized (Some c) h = let k : Sized (encode_control c) = omega (arith, bytes_field-length 3 (encode_control c)) in
     k and none_left
 
 last-part : (a b c : List ℕ) → length c ≤ length (a ++ (b ++ c))

@@ -1,9 +1,8 @@
 -- Laws between the modes, and what is written holds no groups. The canonical bytes around the messages, and sign bytes
 -- after the prefix, are fields of the first mode; a message keeps its raw bytes, groups included. And a body that the
 -- first mode does not refuse by 5 with type 3 or 4 has the same answers in both modes, whatever its bytes are.
-use Rattle.std.specs.Prelude.{ℕ, ◌≡◌, refl, List, [], ◌++◌}
+use Rattle.std.specs.Prelude.{None, Result, Ok, Err, ℕ, ◌≡◌, refl, List, [], ◌++◌}
 use Rattle.std.proofs.Common.{sym, ap, ap₂, subst, ◌∙◌, append-nil, arith}
-use Rattle.std.proofs.Math.Option.{none}
 use Rattle.basis.specs.declared.Mode.{Mode}
 use Rattle.basis.specs.declared.Mode.TheVariants.{Plain, Groups}
 use Rattle.basis.specs.declared.Edition.{Edition}
@@ -12,12 +11,10 @@ use Rattle.basis.specs.Dialect.{spoken}
 use Rattle.basis.specs.Cases.{clash}
 use Rattle.basis.specs.Writing.{answer, written}
 use Rattle.utf8.specs.Grammar.{Utf8}
-use Rattle.protobuf.specs.declared.Checked.{Checked}
-use Rattle.protobuf.specs.declared.Checked.TheVariants.{Fine, Refused as Wrong}
 use Rattle.protobuf.specs.Grammar.{Entry, BodyIn, Body}
 use Rattle.protobuf.specs.Walk.{between}
 use Rattle.protobuf.specs.Encode.{bytes_field, of_written}
-use Rattle.schema.specs.declared.Kind.TheVariants as kind
+use Rattle.protobuf.specs.declared.Refusal.{Refusal}
 use Rattle.schema.specs.Accept.{checked, accept_of}
 use Rattle.schema.specs.AcceptLaws.{is-taken}
 use Rattle.rpc.specs.Rpc.{RawMessage, Rpc}
@@ -26,8 +23,6 @@ use Rattle.rpc.specs.Encode.{repeated, sign_prefix}
 use Rattle.meaning.specs.Back.{mk_message, same-message}
 use Rattle.meaning.specs.Decoded.{Within}
 use Rattle.schema.specs.Modes.{NoGroupBody, same_accept}
-use Rattle.ids.specs.declared.MessageAt.{MessageAt}
-use Rattle.ids.specs.declared.MessageAt.TheVariants.{At, Count}
 use Rattle.ids.specs.Ids.{message_at, id_parts, of_written as message, answer_id, left_id, answer_at, left_at}
 use Rattle.ids.specs.Ids.{answer_checked, left_checked, id_answer, id_left}
 use Rattle.encode.specs.Encode.{encode_checked, encode_answer, encoded_checked, encode_left}
@@ -58,14 +53,14 @@ unsigned b m =
       «data» = m.«data»;
       seqno = m.seqno;
       topic_ids = m.topic_ids;
-      signature = none;
-      key = none;
+      signature = None;
+      key = None;
     }
 
 signed-means : {l : ℕ} {s : List ℕ} {es : List Entry} → BodyIn l s es → Each Utf8 (bytes_in 4 es)
     → IsMessage Plain (signed_fields es)
-    (mk_message (signed_fields es) (last (bytes_in 1 es)) (last (bytes_in 2 es)) (last (bytes_in 3 es)) (bytes_in 4 es) none
-    none)
+    (mk_message (signed_fields es) (last (bytes_in 1 es)) (last (bytes_in 2 es)) (last (bytes_in 3 es)) (bytes_in 4 es) None
+    None)
 unfolding mk_message
 signed-means {es = es} g u =
     let f = last (bytes_in 1 es) in let d = last (bytes_in 2 es) in let q = last (bytes_in 3 es) in
@@ -104,11 +99,11 @@ sign_plain {mode} (is-message {s = s} {es = es} g u) =
     (signed_fields es, ap (λ (x : List ℕ). sign_prefix ++ x) (canon-message mode s es g), signed-means g u)
 
 -- ---- between the modes: encode
-encode_by : (e : Edition) (s out : List ℕ) (c : Checked) → accept_of (spoken Plain e) s ≡ c
+encode_by : (e : Edition) (s out : List ℕ) (c : Result (Unit {0}) Refusal) → accept_of (spoken Plain e) s ≡ c
     → (encode_checked (spoken Groups e) s out c ≡ encode_checked (spoken Plain e) s out c)
     × (encoded_checked (spoken Groups e) s out c ≡ encoded_checked (spoken Plain e) s out c)
-encode_by e s out (Wrong why) q = (refl, refl)
-encode_by e s out Fine q =
+encode_by e s out (Err why) q = (refl, refl)
+encode_by e s out (Ok tt) q =
     let t = is-taken (spoken Plain e) s q in
     let b = same-canon e s t.records t.counts in
     (ap (λ (xs : List ℕ). of_written (answer xs out)) b, ap (λ (xs : List ℕ). written xs out) b)
@@ -123,19 +118,19 @@ same_encode e s out g =
     (ap (encode_checked (spoken Groups e) s out) a ∙ r.0, ap (encoded_checked (spoken Groups e) s out) a ∙ r.1)
 
 -- ---- sign_bytes
-sign_at_lem : (s out : List ℕ) (r : MessageAt)
-    → ((a e : ℕ) → r ≡ At a e → sign_of Groups (between s a e) ≡ sign_of Plain (between s a e))
+sign_at_lem : (s out : List ℕ) (r : Result (ℕ × ℕ) ℕ)
+    → ((a e : ℕ) → r ≡ Ok (a, e) → sign_of Groups (between s a e) ≡ sign_of Plain (between s a e))
     → (sign_at Groups s out r ≡ sign_at Plain s out r) × (signed_at Groups s out r ≡ signed_at Plain s out r)
-sign_at_lem s out (Count n) h = (refl, refl)
-sign_at_lem s out (At a e) h =
+sign_at_lem s out (Err n) h = (refl, refl)
+sign_at_lem s out (Ok (a, e)) h =
     let b = h a e refl in
     (ap (λ (xs : List ℕ). message (answer xs out)) b, ap (λ (xs : List ℕ). written xs out) b)
 
-sign_by : (e : Edition) (s : List ℕ) (i : ℕ) (out : List ℕ) (c : Checked) → accept_of (spoken Plain e) s ≡ c
+sign_by : (e : Edition) (s : List ℕ) (i : ℕ) (out : List ℕ) (c : Result (Unit {0}) Refusal) → accept_of (spoken Plain e) s ≡ c
     → (sign_checked Groups s i out c ≡ sign_checked Plain s i out c)
     × (signed_checked Groups s i out c ≡ signed_checked Plain s i out c)
-sign_by e s i out (Wrong why) q = (refl, refl)
-sign_by e s i out Fine q =
+sign_by e s i out (Err why) q = (refl, refl)
+sign_by e s i out (Ok tt) q =
     let t = is-taken (spoken Plain e) s q in
     let p = same_place e s t.records t.counts i in
     let r = sign_at_lem s out (message_at Plain s i)
@@ -153,20 +148,20 @@ same_sign e s i out g =
     (ap (sign_checked Groups s i out) a ∙ r.0, ap (signed_checked Groups s i out) a ∙ r.1)
 
 -- ---- message_id and seen_message_id, with what stands before the id
-id_at_lem : (pre s out : List ℕ) (r : MessageAt)
-    → ((a e : ℕ) → r ≡ At a e → id_parts Groups (between s a e) ≡ id_parts Plain (between s a e))
+id_at_lem : (pre s out : List ℕ) (r : Result (ℕ × ℕ) ℕ)
+    → ((a e : ℕ) → r ≡ Ok (a, e) → id_parts Groups (between s a e) ≡ id_parts Plain (between s a e))
     → (answer_at Groups pre s out r ≡ answer_at Plain pre s out r)
     × (left_at Groups pre s out r ≡ left_at Plain pre s out r)
-id_at_lem pre s out (Count n) h = (refl, refl)
-id_at_lem pre s out (At a e) h =
+id_at_lem pre s out (Err n) h = (refl, refl)
+id_at_lem pre s out (Ok (a, e)) h =
     let b = h a e refl in
     (ap (answer_id pre (between s a e) out) b, ap (left_id pre (between s a e) out) b)
 
-id-by : (pre : List ℕ) (e : Edition) (s : List ℕ) (i : ℕ) (out : List ℕ) (c : Checked) → accept_of (spoken Plain e) s ≡ c
+id-by : (pre : List ℕ) (e : Edition) (s : List ℕ) (i : ℕ) (out : List ℕ) (c : Result (Unit {0}) Refusal) → accept_of (spoken Plain e) s ≡ c
     → (answer_checked Groups pre s i out c ≡ answer_checked Plain pre s i out c)
     × (left_checked Groups pre s i out c ≡ left_checked Plain pre s i out c)
-id-by pre e s i out (Wrong why) q = (refl, refl)
-id-by pre e s i out Fine q =
+id-by pre e s i out (Err why) q = (refl, refl)
+id-by pre e s i out (Ok tt) q =
     let t = is-taken (spoken Plain e) s q in
     let p = same_place e s t.records t.counts i in
     let r = id_at_lem pre s out (message_at Plain s i)
@@ -184,6 +179,6 @@ same_id pre e s i out g =
     (ap (answer_checked Groups pre s i out) a ∙ r.0, ap (left_checked Groups pre s i out) a ∙ r.1)
 
 -- so it is where the first mode accepts
-pub plain-taken : (e : Edition) (s : List ℕ) → accept_of (spoken Plain e) s ≡ Fine → NoGroupBody e s
+pub plain-taken : (e : Edition) (s : List ℕ) → accept_of (spoken Plain e) s ≡ Ok tt → NoGroupBody e s
 unfolding accept_of
 plain-taken e s h r q g = clash (let z = ap checked q in cc)

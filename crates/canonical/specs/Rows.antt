@@ -3,11 +3,11 @@
 -- `sign_bytes` of message 0. A refusal has its place beside the Rust's own numbers. Other bodies stand apart: those
 -- that the editions do not read alike, both readings beside each other, and those with groups, where groups are passed
 -- over.
-use Rattle.std.specs.Prelude.{ℕ, zero, suc, ◌+◌, ◌*◌, ◌/◌, ◌≤◌, ◌<◌, ◌≡◌, Bool, true, false, cond, length, drop}
+use Rattle.std.specs.Prelude.{Some, None, Result, Ok, Err, ℕ, zero, suc, ◌+◌, ◌*◌, ◌/◌, ◌≤◌, ◌<◌, ◌≡◌, Bool, true, false}
+use Rattle.std.specs.Prelude.{cond, length, drop}
 use Rattle.std.proofs.Math.Path.{refl}
 use Rattle.std.proofs.Common.{sym, ap, subst, ◌∙◌, le-ltb, lt-ltb}
 use mathlib.Core.List.{List, [], ◌∷◌, ◌++◌, map}
-use Rattle.std.proofs.Math.Option.{none, some}
 use native.Mathlib.Omega.{arith}
 use Rattle.std.proofs.Math.ListN.{replicate, length-replicate, length-append}
 use Rattle.std.proofs.lemmas.List.Edits.{sets, sets-eq}
@@ -31,15 +31,13 @@ use Rattle.protobuf.specs.declared.WireError.TheVariants.{Varint, FieldOverflow,
 use Rattle.protobuf.specs.declared.WireError.TheVariants.{InvalidFieldNumber, InvalidUtf8, TooManyRecords}
 use Rattle.protobuf.specs.declared.WireError.TheVariants.{EndGroup, GroupDepth, GroupOpen}
 use Rattle.protobuf.specs.Refusal.{nowhere}
-use Rattle.protobuf.specs.Told.{wire_told, refusal_told, encoded_told}
+use Rattle.protobuf.specs.Told.{refusal_told, encoded_told}
 use Rattle.protobuf.specs.Field.{read_tag, read_len, read_varint, skip_fixed, skip_value, passed, skip_from, skip_group}
 use Rattle.protobuf.specs.Field.{skip_field, read_value, read_field}
 use Rattle.protobuf.specs.Walk.{walk_from, walk_at, between}
 use Rattle.protobuf.specs.Encode.{tag, bytes_field, varint_field, of_written}
 use Rattle.protobuf.specs.EncodeLaws.{bytes_field-length}
 use Rattle.schema.specs.declared.Kind.TheVariants as kind
-use Rattle.schema.specs.declared.Tested.{Tested}
-use Rattle.schema.specs.declared.Tested.TheVariants as tested
 use Rattle.schema.specs.Schema.{role_of, rank, own_of}
 use Rattle.schema.specs.Kinds.{to_depth, over_kinds}
 use Rattle.schema.specs.Count.{text_count, counted}
@@ -49,9 +47,9 @@ use Rattle.schema.specs.AcceptLaws.{records-many}
 use Rattle.schema.specs.Slots.{set_place, with_field, slots_of, has_field}
 use Rattle.schema.specs.declared.Place.TheVariants as place
 use Rattle.schema.specs.declared.Number.TheVariants as number
-use Rattle.message.specs.declared.Decoded.{Decoded}
-use Rattle.message.specs.declared.Decoded.TheVariants.{Records, Room}
 use Rattle.message.specs.declared.Record.{Record}
+use Rattle.message.specs.declared.DecodeError.TheVariants as dec
+use Rattle.message.specs.declared.DecodeError.{DecodeError}
 use Rattle.message.specs.Rows.{own_rows, rows_of, kind_code, number_words, place_words, places_words, words_of, words_of_all}
 use Rattle.message.specs.Decode.{has_control, on_count, decode_answer, leaves, decode_table}
 use Rattle.message.specs.Told.{decoded_told}
@@ -64,8 +62,6 @@ use Rattle.meaning.specs.Table.{IsRecord, rows_in, table-back}
 use Rattle.meaning.specs.Size.{records_in}
 use Rattle.meaning.specs.Decoded.{meant-count, records-within}
 use Rattle.meaning.specs.Editions.{declines, older}
-use Rattle.ids.specs.declared.MessageAt.{MessageAt}
-use Rattle.ids.specs.declared.MessageAt.TheVariants.{At}
 use Rattle.ids.specs.Ids.{message_at, of_written as message}
 use Rattle.ids.specs.Told.{message_told}
 use Rattle.encode.specs.Encode.{encode_checked, encode_answer, encoded_checked, encode_left}
@@ -117,15 +113,15 @@ third_rpc =
       publish =
           record {
             raw = 0x0a ∷ 0x01 ∷ 0x41 ∷ 0x0a ∷ 0x01 ∷ 0x42 ∷ [];
-            from = some (0x42 ∷ []);
-            «data» = none;
-            seqno = none;
+            from = Some (0x42 ∷ []);
+            «data» = None;
+            seqno = None;
             topic_ids = [];
-            signature = none;
-            key = none;
+            signature = None;
+            key = None;
           }
           ∷ [];
-      control = none;
+      control = None;
     }
 
 abbrev pub third_row : List ℕ
@@ -164,66 +160,66 @@ pub record PRows (d : Dialect) : Type 0 where
 abbrev at : WireError → ℕ → List ℕ → Placed
 at why offset path = record { why = why; spot = place_at offset path }
 
-refuses-by : (d : Dialect) (s : List ℕ) (why : Placed) → body_records d s ≡ tested.Refused why
+refuses-by : (d : Dialect) (s : List ℕ) (why : Placed) → body_records d s ≡ Err why
     → Refuses d s (refusal_told why)
 unfolding decode_answer decode_table encode_answer encode_left accept_of
 refuses-by d s why e =
     record {
       decodes = λ t. (
-        ap (λ (r : Tested). decoded_told (on_count (length t / 20) (has_control d.mode s) r)) e,
-        ap (λ (r : Tested). leaves d s t (on_count (length t / 20) (has_control d.mode s) r)) e,
+        ap (λ (r : Result ℕ Placed). decoded_told (on_count (length t / 20) (has_control d.mode s) r)) e,
+        ap (λ (r : Result ℕ Placed). leaves d s t (on_count (length t / 20) (has_control d.mode s) r)) e,
       );
       encodes = λ out. (
-        ap (λ (r : Tested). encoded_told (encode_checked d s out (checked r))) e,
-        ap (λ (r : Tested). encoded_checked d s out (checked r)) e,
+        ap (λ (r : Result ℕ Placed). encoded_told (encode_checked d s out (checked r))) e,
+        ap (λ (r : Result ℕ Placed). encoded_checked d s out (checked r)) e,
       );
     }
 
-answers_by : (d : Dialect) (s : List ℕ) (n : ℕ) (words : ℕ) → body_records d s ≡ tested.Records n → n ≤ words / 20
-    → decode_answer d s words ≡ Records n (has_control d.mode s)
+answers_by : (d : Dialect) (s : List ℕ) (n : ℕ) (words : ℕ) → body_records d s ≡ Ok n → n ≤ words / 20
+    → decode_answer d s words ≡ Ok (n, has_control d.mode s)
 unfolding decode_answer
 answers_by d s n words e h = ap (on_count (words / 20) (has_control d.mode s)) e ∙ simp (le-ltb (words / 20) n h)
 
-short-by : (d : Dialect) (s : List ℕ) (n : ℕ) (words : ℕ) → body_records d s ≡ tested.Records n → words / 20 < n
-    → decode_answer d s words ≡ Room n
+short-by : (d : Dialect) (s : List ℕ) (n : ℕ) (words : ℕ) → body_records d s ≡ Ok n → words / 20 < n
+    → decode_answer d s words ≡ Err (dec.Room n)
 unfolding decode_answer
 short-by d s n words e h = ap (on_count (words / 20) (has_control d.mode s)) e ∙ simp (lt-ltb (words / 20) n h)
 
-leaves_by : (d : Dialect) (s t : List ℕ) (r : Decoded) → decode_answer d s (length t) ≡ r
+leaves_by : (d : Dialect) (s t : List ℕ) (r : Result (ℕ × Bool) DecodeError) → decode_answer d s (length t) ≡ r
     → decode_table d s t ≡ leaves d s t r
 unfolding decode_table
 leaves_by d s t r e = ap (leaves d s t) e
 
-none-by : (d : Dialect) (s : List ℕ) (c : Bool) → body_records d s ≡ tested.Records 0 → has_control d.mode s ≡ c
+none-by : (d : Dialect) (s : List ℕ) (c : Bool) → body_records d s ≡ Ok 0 → has_control d.mode s ≡ c
     → rows_of d.mode (kind.Rpc d.edition) 0 s ≡ [] → NoRecords d s (cond c 1 0)
 none-by d s c e h r t =
     let a = answers_by d s 0 (length t) e (omega arith) in (
       ap decoded_told a ∙ ap (λ (b : Bool). done (0 ∷ cond b 1 0 ∷ [])) h,
-      leaves_by d s t (Records 0 (has_control d.mode s)) a ∙ ap (λ (rs : List Record). sets t 0 (words_of_all rs)) r,
+      leaves_by d s t (Ok (0, has_control d.mode s)) a ∙ ap (λ (rs : List Record). sets t 0 (words_of_all rs)) r,
     )
 
-encodes-by : (d : Dialect) (s bs : List ℕ) (n : ℕ) → body_records d s ≡ tested.Records n → canon_body d s ≡ bs
+encodes-by : (d : Dialect) (s bs : List ℕ) (n : ℕ) → body_records d s ≡ Ok n → canon_body d s ≡ bs
     → EncodesAs d s bs
 unfolding encode_answer encode_left accept_of
 encodes-by d s bs n e h out =
     subst
-    (λ (r : Tested). Writes bs out (encoded_told (encode_checked d s out (checked r)))
+    (λ (r : Result ℕ Placed). Writes bs out (encoded_told (encode_checked d s out (checked r)))
     (encoded_checked d s out (checked r)))
     (sym e)
     (subst (λ (xs : List ℕ). Writes bs out (encoded_told (of_written (answer xs out))) (written xs out)) (sym h)
     (writes (λ z. encoded_told (of_written z)) (λ k. refl) (λ k. refl) bs out))
 
-signs-by : (d : Dialect) (s bs : List ℕ) (n i a e : ℕ) → body_records d s ≡ tested.Records n
-    → message_at d.mode s i ≡ At a e
+signs-by : (d : Dialect) (s bs : List ℕ) (n i a e : ℕ) → body_records d s ≡ Ok n
+    → message_at d.mode s i ≡ Ok (a, e)
     → sign_of d.mode (between s a e) ≡ bs → (out : List ℕ)
     → Writes bs out (message_told (sign_answer d s i out)) (sign_left d s i out)
 unfolding sign_answer sign_left accept_of
 signs-by d s bs n i a e q p h out =
     subst
-    (λ (r : Tested). Writes bs out (message_told (sign_checked d.mode s i out (checked r)))
+    (λ (r : Result ℕ Placed). Writes bs out (message_told (sign_checked d.mode s i out (checked r)))
     (signed_checked d.mode s i out (checked r)))
     (sym q)
-    (subst (λ (r : MessageAt). Writes bs out (message_told (sign_at d.mode s out r)) (signed_at d.mode s out r))
+    (subst (λ (r : Result (ℕ × ℕ) ℕ). Writes bs out (message_told (sign_at d.mode s out r)) (signed_at d.mode s out r))
     (sym p)
     (subst (λ (xs : List ℕ). Writes bs out (message_told (message (answer xs out))) (written xs out)) (sym h)
     (writes (λ z. message_told (message z)) (λ k. refl) (λ k. refl) bs out)))
@@ -234,7 +230,7 @@ at_front row t k h =
     sets-eq row t 0 (omega arith) ∙ ap (λ (j : ℕ). row ++ drop j t) z
 
 one-by : (d : Dialect) (s row : List ℕ) (x : Rpc) (r : Record) → IsRecord r.kind
-    → body_records d s ≡ tested.Records 1 → has_control d.mode s ≡ false
+    → body_records d s ≡ Ok 1 → has_control d.mode s ≡ false
     → rows_of d.mode (kind.Rpc d.edition) 0 s ≡ r ∷ []
     → words_of_all (r ∷ []) ≡ row → length row ≡ 20 → read_back s (r ∷ []) false ≡ x
     → (t : List ℕ) → OneRecord d s row x t
@@ -242,7 +238,7 @@ one-by d s row x r own e c rs w k b t =
     record {
       fits = λ h.
           let a = answers_by d s 1 (length t) e (omega arith) in
-          let l = leaves_by d s t (Records 1 (has_control d.mode s)) a
+          let l = leaves_by d s t (Ok (1, has_control d.mode s)) a
           ∙ ap (λ (z : List Record). sets t 0 (words_of_all z)) rs in (
             ap decoded_told a ∙ ap (λ (z : Bool). done (1 ∷ cond z 1 0 ∷ [])) c,
             l ∙ ap (sets t 0) w ∙ at_front row t k h,
@@ -250,7 +246,7 @@ one-by d s row x r own e c rs w k b t =
                 ∙ ap (λ (z : List Record). read_back s z false) (table-back t (r ∷ []) (own and none_left) (omega arith))
                 ∙ b,
           );
-      short = λ h. let a = short-by d s 1 (length t) e (omega arith) in (ap decoded_told a, leaves_by d s t (Room 1) a);
+      short = λ h. let a = short-by d s 1 (length t) e (omega arith) in (ap decoded_told a, leaves_by d s t (Err (dec.Room 1)) a);
     }
 
 abbrev third_record : Record
@@ -415,7 +411,7 @@ empty_ids n =
     }
 
 abbrev pub ids_rpc : ℕ → Rpc
-ids_rpc n = record { subscriptions = []; publish = []; control = some (empty_ids n) }
+ids_rpc n = record { subscriptions = []; publish = []; control = Some (empty_ids n) }
 
 empty-sized : (n : ℕ) → Each Sized (replicate n [])
 empty-sized zero = none_left
@@ -467,16 +463,16 @@ module _ (mode : Mode) (n : ℕ) (h : n ≤ 512) where
   unfolding records_in
   ids-records = omega (arith, length-replicate {A = List ℕ} n [])
 
-  ids-older : body_records (spoken mode V11) (encode_rpc (ids_rpc n)) ≡ tested.Records 0
+  ids-older : body_records (spoken mode V11) (encode_rpc (ids_rpc n)) ≡ Ok 0
   unfolding records_in
   ids-older = records-within
       (record { means = older ids-mean; small = omega (arith, ids_short); few = omega arith })
 
 pub rows_full : (mode : Mode) →
-    (body_records (spoken mode V11) (encode_rpc (ids_rpc 511)) ≡ tested.Records 0)
-    × (body_records (spoken mode V12) (encode_rpc (ids_rpc 511)) ≡ tested.Records 512)
-    × (body_records (spoken mode V11) (encode_rpc (ids_rpc 512)) ≡ tested.Records 0)
-    × (body_records (spoken mode V12) (encode_rpc (ids_rpc 512)) ≡ tested.Refused (nowhere (TooManyRecords 513)))
+    (body_records (spoken mode V11) (encode_rpc (ids_rpc 511)) ≡ Ok 0)
+    × (body_records (spoken mode V12) (encode_rpc (ids_rpc 511)) ≡ Ok 512)
+    × (body_records (spoken mode V11) (encode_rpc (ids_rpc 512)) ≡ Ok 0)
+    × (body_records (spoken mode V12) (encode_rpc (ids_rpc 512)) ≡ Err (nowhere (TooManyRecords 513)))
 rows_full mode =
     let a : 511 ≤ 512 = omega arith in
     let b : 512 ≤ 512 = omega arith in
@@ -487,12 +483,12 @@ rows_full mode =
         means = ids-mean mode 511 a;
         small = omega (arith, ids_short mode 511 a);
         few = omega (arith, r);
-      }) ∙ ap tested.Records r,
+      }) ∙ ap Ok r,
       ids-older mode 512 b,
       records-many (spoken mode V12) (encode_rpc (ids_rpc 512)) (records_in (ids_rpc 512))
           (omega (arith, ids_short mode 512 b))
           (meant-count (ids-mean mode 512 b)) (omega (arith, q))
-          ∙ ap (λ (k : ℕ). tested.Refused (nowhere (TooManyRecords k))) q,
+          ∙ ap (λ (k : ℕ). Err (nowhere (TooManyRecords k))) q,
     )
 
 -- ---- bodies with groups, where they are passed over
@@ -507,15 +503,15 @@ group_rpc =
       publish =
           record {
             raw = 0x0a ∷ 0x01 ∷ 0x42 ∷ 0x0b ∷ 0x0a ∷ 0x01 ∷ 0x41 ∷ 0x0c ∷ [];
-            from = some (0x42 ∷ []);
-            «data» = none;
-            seqno = none;
+            from = Some (0x42 ∷ []);
+            «data» = None;
+            seqno = None;
             topic_ids = [];
-            signature = none;
-            key = none;
+            signature = None;
+            key = None;
           }
           ∷ [];
-      control = none;
+      control = None;
     }
 
 abbrev pub group_row : List ℕ

@@ -1,24 +1,21 @@
 -- What the writers need of rows and places: codes and kinds, places that lie within the bytes, a field by its place.
-use Prim.Native.Nat.{ℕ, zero, suc, ◌+◌, ◌-◌, ◌*◌, ◌/◌, ◌≤◌, ◌<◌}
+use Prim.Native.Nat.{ℕ, zero, suc, ◌+◌, ◌*◌, ◌/◌, ◌≤◌, ◌<◌}
 use mathlib.Core.Path.{◌≡◌, refl, sym, ap, subst, ◌∙◌}
 use mathlib.Core.Bool.{Bool, true, false, cond, ◌&&◌, ◌||◌}
 use mathlib.Core.List.{List, [], ◌∷◌, ◌++◌}
-use mathlib.Core.Option.{none, some}
 use native.Mathlib.Omega.{arith}
 use native.Mathlib.Nat.{zero-add}
 use lib.ListN.{length, get_or}
 use lib.Dec.{ltb, eqb, leb}
 use borrow.Author.Tests.{eqb-true, ne_eqb, leb-true, ltb-true, ltb-false}
+use Rattle.std.specs.List.{range_with_len, list_any}
 use Rattle.basis.specs.Cases.{either, both}
 use Rattle.peer_id.specs.Uvarint.{uvarint}
-use Rattle.protobuf.specs.Walk.{between}
-use Rattle.protobuf.specs.WalkLaws.{between-length}
 use Rattle.protobuf.specs.Encode.{tag, varint_field, bytes_field}
 use Rattle.protobuf.specs.EncodeLaws.{tag-varint}
 use Rattle.schema.specs.declared.Kind.{Kind}
 use Rattle.schema.specs.declared.Kind.TheVariants as kind
 use Rattle.schema.specs.declared.Place.{Place}
-use Rattle.schema.specs.declared.Place.TheVariants as place
 use Rattle.schema.specs.declared.Number.{Number}
 use Rattle.schema.specs.declared.Number.TheVariants as number
 use Rattle.schema.specs.declared.Slots.{Slots}
@@ -26,13 +23,13 @@ use Rattle.schema.specs.Schema.{own_of}
 use Rattle.message.specs.declared.Record.{Record}
 use Rattle.message.specs.Rows.{kind_code, kind_from, record_from}
 use Rattle.meaning.specs.ReadBack.{bytes_at, number_at, raw_of}
-use Rattle.meaning.specs.Table.{IsRecord}
+use Rattle.meaning.specs.Table.{IsRecord, rows_in}
 use Rattle.rpc.specs.Grammar.{nonzero}
 use Rattle.rpc.specs.Encode.{optional, repeated, flag, encode_sub_opts, encode_graft, encode_peer_info, encode_prune, sign_prefix, sign_bytes}
 use Rattle.compose.specs.Lent.{rows_from, is_code, inside_at, fields_inside, row_inside}
 use Rattle.compose.specs.Said.{encode_fields, encode_message, topics_from, peers_from, sub_opts_of, graft_of, peer_of, prune_of, message_of}
 use Rattle.compose.specs.Weighed.{capped}
-use Rattle.compose.specs.Puts.{Puts, capped_small, capped-add, puts_short, puts_field, flagged}
+use Rattle.compose.specs.Puts.{Puts, capped-add, puts_short, puts_field, flagged}
 use Rattle.compose.specs.Puts.{Written, of-sub_opts, of-message, of-graft, of-prune, row_bytes, row_part, each_row, topic_part, peer_part}
 use Rattle.compose.specs.Puts.{slot_at, field_part, has_row, control_bytes}
 use Rattle.compose.specs.Laws.{code_kind, rows_step_lem, rows_end_lem, peers-step, topics-step, no-peers, no-topics}
@@ -85,13 +82,6 @@ unfolding record_from
 row-code t i c l h = code-from (get_or t (i * 20) 0) c l h
 
 -- ---- what lies within
-pub place_inside : (n at a e : ℕ) (p : Place) → inside_at n at p ≡ true → p ≡ place.Present a e → (a ≤ e) × (at + e ≤ n)
-unfolding inside_at
-place_inside n at a e p h q =
-    let g : leb a e && leb (at + e) n ≡ true = sym (ap (inside_at n at) q) ∙ h in
-    let z = both (leb a e) (leb (at + e) n) g in
-    (leb-true a e z.0, leb-true (at + e) n z.1)
-
 pub row_inside-is : (n : ℕ) (r : Record) → row_inside n r ≡ true
     → (r.start ≤ r.end) × (r.end ≤ n) × (fields_inside n r.start r.kind r.slots ≡ true)
 unfolding row_inside
@@ -160,14 +150,7 @@ pub peer-inside : (n at : ℕ) (t : Slots) → fields_inside n at kind.PeerInfo 
 unfolding fields_inside
 peer-inside n at t h = both (inside_at n at t.first) (inside_at n at t.second) h
 
--- ---- a field by its place, a number
-pub place_none : (n : ℕ) (b : List ℕ) (at : ℕ) (p : Place) → p ≡ place.Absent → optional (bytes_field n) (bytes_at b at p) ≡ []
-place_none n b at p e = rw e
-
-pub place_is : (n : ℕ) (b : List ℕ) (at a e : ℕ) (p : Place) → p ≡ place.Present a e
-    → optional (bytes_field n) (bytes_at b at p) ≡ bytes_field n (between b (at + a) (at + e))
-place_is n b at a e p q = rw q
-
+-- ---- a number
 pub number-none : (n : ℕ) (x : Number) → x ≡ number.Absent → optional (varint_field n) (number_at x) ≡ []
 number-none n x e = rw e
 
@@ -226,12 +209,6 @@ field-short front left out mid at i end len n d m p e h =
     ∙ ap capped {x = length d + i} {y = i + length d} (omega arith) in
     puts_field out mid mid at i end len n d k p (puts_short mid i d mid end z h)
 
--- the bytes from a to e
-pub part-size : (b : List ℕ) (a e : ℕ) → a ≤ e → e ≤ length b → length b ≤ 18446744073709551615 → e - a ≡ capped (length (between b a e))
-part-size b a e h l m =
-    let z = between-length b a e l in
-    sym (capped_small (length (between b a e)) (omega arith) ∙ z)
-
 pub head-is : (n len : ℕ) → uvarint (n * 8 + 2) ++ uvarint len ≡ tag n 2 ++ uvarint len
 unfolding tag
 head-is n len = refl
@@ -269,27 +246,6 @@ slot_inside n at k t m =
     (λ u1. either (eqb k 2) (λ u. simp (u1, u) m.«data»)
     (λ u2. either (eqb k 3) (λ u. simp (u1, u2, u) m.seqno)
     (λ u3. either (eqb k 5) (λ u. simp (u1, u2, u3, u) m.signature) (λ u5. simp (u1, u2, u3, u5) m.key))))
-
-module _ (n : ℕ) (t : Slots) where
-  pub slot_from : n ≡ 1 → t.first ≡ slot_at n t
-  unfolding slot_at
-  slot_from e = rw e
-
-  pub slot_data : n ≡ 2 → t.second ≡ slot_at n t
-  unfolding slot_at
-  slot_data e = rw e
-
-  pub slot_seqno : n ≡ 3 → t.third ≡ slot_at n t
-  unfolding slot_at
-  slot_seqno e = rw e
-
-  pub slot_signature : n ≡ 5 → t.fourth ≡ slot_at n t
-  unfolding slot_at
-  slot_signature e = rw e
-
-  pub slot_key : (n ≡ 1 → ⊥) → (n ≡ 2 → ⊥) → (n ≡ 3 → ⊥) → (n ≡ 5 → ⊥) → t.fifth ≡ slot_at n t
-  unfolding slot_at
-  slot_key a b c d = simp (ne_eqb n 1 a, ne_eqb n 2 b, ne_eqb n 3 c, ne_eqb n 5 d)
 
 module _ (n : ℕ) (b : List ℕ) (r : Record) (rs : List Record) where
   pub part-topics : n ≡ 4 → repeated (bytes_field 4) (topics_from b rs) ≡ field_part n b r rs
@@ -363,25 +319,13 @@ module _ (t b : List ℕ) (i : ℕ) where
         ≡ row_part c n b (record_from t (i * 20)) (rows_from t (i + 1)) ++ each_row c n b (rows_from t (i + 1))
     each_next c n = ap (each_row c n b) (rows_step_lem t i h)
 
--- ---- a graft or a prune
-module _ (t : List ℕ) (i : ℕ) where
-  pub has_over : length t / 20 ≤ i → has_row (rows_from t i) ≡ false
-  has_over h = ap has_row (rows_end_lem t i h)
+-- ---- a graft or a prune: the test of each row by its number is that of the row
+abbrev pub is_control : List ℕ → ℕ → Bool
+is_control t i = is_code 8 (record_from t (i * 20)) || is_code 9 (record_from t (i * 20))
 
-  module _ (h : i < length t / 20) where
-    has-next : has_row (rows_from t i)
-        ≡ (is_code 8 (record_from t (i * 20)) || is_code 9 (record_from t (i * 20))) || has_row (rows_from t (i + 1))
-    has-next = ap has_row (rows_step_lem t i h)
-
-    pub has-graft : is_code 8 (record_from t (i * 20)) ≡ true → has_row (rows_from t i) ≡ true
-    has-graft e = has-next ∙ simp e
-
-    pub has-prune : is_code 8 (record_from t (i * 20)) ≡ false → is_code 9 (record_from t (i * 20)) ≡ true → has_row (rows_from t i) ≡ true
-    has-prune e f = has-next ∙ simp (e, f)
-
-    pub has_other : is_code 8 (record_from t (i * 20)) ≡ false → is_code 9 (record_from t (i * 20)) ≡ false
-        → has_row (rows_from t i) ≡ has_row (rows_from t (i + 1))
-    has_other e f = has-next ∙ simp (e, f)
+pub any_control : (t : List ℕ) (i n : ℕ) → list_any (is_control t) (range_with_len i n) ≡ has_row (rows_in t i n)
+any_control t i zero = refl
+any_control t i (suc n) = ap (λ (b : Bool). is_control t i || b) (any_control t (i + 1) n)
 
 -- ---- rows by their codes
 pub row-sub_opts : (c : ℕ) (b : List ℕ) (r x : Record) (rs : List Record) → r ≡ x → c ≡ 1 → encode_sub_opts (sub_opts_of b r) ≡ row_bytes c b x rs
@@ -407,19 +351,6 @@ control-none b rs e = simp e
 pub control-some : (b : List ℕ) (rs : List Record) → has_row rs ≡ true → bytes_field 3 (each_row 8 3 b rs ++ each_row 9 4 b rs) ≡ control_bytes b rs
 unfolding control_bytes
 control-some b rs e = simp e
-
--- ---- a flag
-pub flag-none : (x : Number) → x ≡ number.Absent → number.Absent ≡ flagged x
-unfolding flagged
-flag-none x e = rw e
-
-pub flag-zero : (x : Number) (v : ℕ) → x ≡ number.Present v → v ≡ 0 → number.Present 0 ≡ flagged x
-unfolding flagged
-flag-zero x v e z = rw (e, z)
-
-pub flag_one : (x : Number) (v : ℕ) → x ≡ number.Present v → (v ≡ 0 → ⊥) → number.Present 1 ≡ flagged x
-unfolding flagged
-flag_one x v e z = simp (e, ne_eqb v 0 z)
 
 -- ---- a row that adds something, or nothing
 pub peer-yes : (b : List ℕ) (r x : Record) → r ≡ x → is_code 10 x ≡ true → bytes_field 2 (encode_peer_info (peer_of b r)) ≡ peer_part b x

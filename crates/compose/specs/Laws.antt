@@ -4,7 +4,6 @@ use Rattle.std.proofs.Math.Path.{refl}
 use Rattle.std.proofs.Common.{sym, ap, ap₂, subst, ◌∙◌, arith, eqb-true}
 use Rattle.std.proofs.Math.Bool.{cond}
 use mathlib.Core.List.{List, [], ◌∷◌, ◌++◌, map, append-nil}
-use Rattle.std.proofs.Math.Option.{some}
 use Rattle.std.proofs.lemmas.Bool.{eqb-false}
 use Rattle.basis.specs.Cases.{either, both}
 use Rattle.protobuf.specs.Encode.{bytes_field}
@@ -15,10 +14,11 @@ use Rattle.message.specs.declared.Record.{Record}
 use Rattle.message.specs.Rows.{kind_code, kind_from, record_from}
 use Rattle.meaning.specs.ReadBack.{raw_of, nothing, gather_kind, gather}
 use Rattle.meaning.specs.Table.{IsRecord, kind_back, rows_in}
-use Rattle.rpc.specs.Rpc.{SubOpts, RawMessage, ControlGraft, PeerInfo, ControlPrune, ControlMessage}
+use Rattle.rpc.specs.Rpc.{RawMessage, ControlGraft, ControlPrune}
 use Rattle.rpc.specs.Encode.{optional, repeated, encode_sub_opts, encode_graft, encode_prune, encode_control, encode_rpc}
 use Rattle.compose.specs.Lent.{rows_from, lent_rows, is_code, row_inside, held_by, lent_from, lent_well, Inside}
-use Rattle.compose.specs.Said.{encode_message, renewed, subscriptions_in, messages_in, grafts_in, prunes_in, topics_from, peers_from}
+use Rattle.compose.specs.Said.{encode_message, renewed, subscriptions_in, messages_in, grafts_in, prunes_in, topics_from}
+use Rattle.compose.specs.Said.{peers_from}
 use Rattle.compose.specs.Said.{sub_opts_of, graft_of, peer_of, prune_of, message_of, control_of, said}
 use Rattle.compose.specs.Puts.{row_bytes, each_row, has_row, control_bytes}
 

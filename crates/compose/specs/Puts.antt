@@ -1,6 +1,7 @@
 -- Writing at a place of lent bytes: where the bytes xs end, and that they stand there where there is room for them. Where there is none the answer is the same,
 -- so a writer that is lent nothing measures. An end stops at 2^64 - 1.
-use Rattle.std.specs.Prelude.{ℕ, ◌+◌, ◌*◌, ◌/◌, ◌≤◌, ◌<◌, ◌≡◌, refl, Bool, true, false, cond, ◌||◌, List, [], ◌∷◌, ◌++◌, length, drop, ltb, eqb}
+use Rattle.std.specs.Prelude.{Result, Ok, Err, ℕ, ◌+◌, ◌*◌, ◌/◌, ◌≤◌, ◌<◌, ◌≡◌, refl, Bool, true, false, cond, ◌||◌, List}
+use Rattle.std.specs.Prelude.{[], ◌∷◌, ◌++◌, length, drop, ltb, eqb}
 use Rattle.std.proofs.Common.{sym, ap, subst, ◌∙◌, append_assoc, arith, length-append, ltb-true, ltb-false, le-ltb}
 use Rattle.std.proofs.lemmas.List.Edits.{sets}
 use Rattle.std.proofs.Math.Seq.{length-sets}
@@ -17,8 +18,8 @@ use Rattle.message.specs.declared.Record.{Record}
 use Rattle.message.specs.Rows.{record_from}
 use Rattle.meaning.specs.ReadBack.{bytes_at, raw_of}
 use Rattle.rpc.specs.Encode.{optional, repeated, encode_sub_opts, encode_graft, encode_peer_info, encode_prune}
-use Rattle.compose.specs.declared.Row.{Row}
-use Rattle.compose.specs.declared.Row.TheVariants as row
+use Rattle.compose.specs.declared.Wrong.{Wrong}
+use Rattle.compose.specs.declared.Wrong.TheVariants.{NoMessage}
 use Rattle.compose.specs.Lent.{rows_from, lent_rows, is_code}
 use Rattle.compose.specs.Said.{encode_message, topics_from, sub_opts_of, graft_of, peer_of, prune_of, message_of, messages_in}
 use Rattle.compose.specs.Weighed.{capped}
@@ -215,8 +216,8 @@ unfoldable pub control_bytes : List ℕ → List Record → List ℕ
 control_bytes b rs = cond (has_row rs) (bytes_field 3 (each_row 8 3 b rs ++ each_row 9 4 b rs)) []
 
 -- ---- the row of the message at an index, or how many there are
-pub data FindsRow (t b : List ℕ) (index : ℕ) : Row → Type 0 where
+pub data FindsRow (t b : List ℕ) (index : ℕ) : Result ℕ Wrong → Type 0 where
   found : {i : ℕ} → i < length t / 20 → is_code 2 (record_from t (i * 20)) ≡ true
       → drop index (messages_in b (lent_rows t)) ≡ message_of b (record_from t (i * 20)) (rows_from t (i + 1)) ∷ messages_in b (rows_from t (i + 1))
-      → FindsRow t b index (row.At i)
-  missing : {n : ℕ} → length (messages_in b (lent_rows t)) ≡ n → n ≤ index → FindsRow t b index (row.Count n)
+      → FindsRow t b index (Ok i)
+  missing : {n : ℕ} → length (messages_in b (lent_rows t)) ≡ n → n ≤ index → FindsRow t b index (Err (NoMessage n))

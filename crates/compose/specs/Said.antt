@@ -1,8 +1,7 @@
 -- The RPC that lent rows say. They are read as the decoder's own rows are read back (`gather`): a topic is of the last message before it, a peer of the last
 -- prune before it, order is kept within a kind, absent is not empty. A message's raw bytes are made anew from its fields, and a control is there where there
 -- is a graft or a prune.
-use Rattle.std.specs.Prelude.{ℕ, List, [], ◌∷◌, ◌++◌, map}
-use Rattle.std.proofs.Math.Option.{Option, none, some}
+use Rattle.std.specs.Prelude.{Option, Some, None, ℕ, List, [], ◌∷◌, ◌++◌, map}
 use Rattle.protobuf.specs.Encode.{bytes_field}
 use Rattle.message.specs.declared.Record.{Record}
 use Rattle.rpc.specs.Rpc.{SubOpts, RawMessage, ControlGraft, PeerInfo, ControlPrune, ControlMessage, Rpc}
@@ -94,9 +93,9 @@ message_of b r rs =
 
 -- ---- the RPC
 abbrev pub control_of : List ControlGraft → List ControlPrune → Option ControlMessage
-control_of [] [] = none
-control_of [] (p ∷ ps) = some (record { ihave = []; iwant = []; graft = []; prune = p ∷ ps; idontwant = [] })
-control_of (g ∷ gs) ps = some (record { ihave = []; iwant = []; graft = g ∷ gs; prune = ps; idontwant = [] })
+control_of [] [] = None
+control_of [] (p ∷ ps) = Some (record { ihave = []; iwant = []; graft = []; prune = p ∷ ps; idontwant = [] })
+control_of (g ∷ gs) ps = Some (record { ihave = []; iwant = []; graft = g ∷ gs; prune = ps; idontwant = [] })
 
 unfoldable pub said : List ℕ → List Record → Rpc
 said b rs =

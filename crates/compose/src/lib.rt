@@ -5,12 +5,12 @@
 
 pub mod told;
 
-ghost use Rattle.std.specs.Prelude.{◌≡◌, true, [], ◌++◌, ◌+◌, ◌*◌, ◌/◌, ◌≤◌, ◌<◌, length, eqb};
+ghost use Rattle.std.specs.Prelude.{◌≡◌, option_copied, true, [], ◌++◌, ◌+◌, ◌*◌, ◌/◌, ◌≤◌, ◌<◌, length, eqb};
 ghost use Rattle.basis.specs.Unique.{Leaves};
+ghost use Rattle.compose.specs.declared.ComposeError.TheVariants.{Refused};
 ghost use Rattle.basis.specs.Writing.{written};
 ghost use Rattle.peer_id.specs.Uvarint.{uvarint};
 ghost use Rattle.protobuf.specs.Encode.{tag, varint_field, bytes_field};
-ghost use Rattle.protobuf.specs.Walk.{between};
 ghost use Rattle.message.specs.Rows.{kind_code, record_from};
 ghost use Rattle.meaning.specs.ReadBack.{bytes_at, number_at};
 ghost use Rattle.rpc.specs.Encode.{optional, repeated, encode_sub_opts, encode_graft, encode_peer_info, encode_prune, encode_rpc, sign_bytes};
@@ -24,7 +24,7 @@ use admission::{
     MAX_MESSAGE_SIZE, MAX_TOPIC_SIZE, MAX_TOPICS, SIGNATURE_LEN, Topics, Unfit, allows_unsigned,
     is_key, is_peer_id, key_inside, key_matches, known_flags,
 };
-use message::{RECORD_WORDS, Record, RecordAt, record_at};
+use message::{RECORD_WORDS, Record, record_at};
 use peer_id::{put_uvarint, uvarint_len};
 use protobuf::{MAX_RPC_SIZE, put_bytes};
 use schema::{Kind, MAX_RECORDS, Number, Place, Slots};
@@ -55,37 +55,26 @@ pub enum Wrong {
     TooLong(usize),
 }
 
-// What a test of the lists says.
+// Why a call wrote nothing: a refusal, or the room that it needs.
 #[derive(Clone, Copy)]
-pub enum Lists {
-    Fine,
-    Refused(Wrong),
-}
-
-// What a call answers: how many bytes it wrote, or why none.
-#[derive(Clone, Copy)]
-pub enum Composed {
-    Bytes(usize),
+pub enum ComposeError {
     Refused(Wrong),
     Room(usize),
 }
 
-// Where a message stands in the table, or how many there are.
-#[derive(Clone, Copy)]
-pub enum Row {
-    At(usize),
-    Count(usize),
+impl From<Wrong> for ComposeError {
+    ghost from_gives = { λ why e. e ≡ Refused why };
+
+    fn from(why: Wrong) -> ComposeError {
+        ComposeError::Refused(why)
+    }
 }
 
 // The place len bytes after another; it stops at 2^64 - 1.
 fn past(at: usize, len: usize) -> usize
     ensures { result ≡ capped (at + len) }
 {
-    let left = 18446744073709551615 - at;
-    if left < len {
-        return 18446744073709551615;
-    }
-    at + len
+    at.saturating_add(len)
 }
 
 // ---- rows
@@ -95,23 +84,7 @@ fn row_at(records: &[u64], i: usize) -> Record
     requires { i < length records.now / 20 }
     ensures { result ≡ record_from records.now (i * 20) }
 {
-    let found = record_at(records, i);
-    match found {
-        RecordAt::Record(r) => r,
-        RecordAt::Nothing => Record {
-            kind: Kind::Topic,
-            start: 0,
-            end: 0,
-            slots: Slots {
-                number: Number::Absent,
-                first: Place::Absent,
-                second: Place::Absent,
-                third: Place::Absent,
-                fourth: Place::Absent,
-                fifth: Place::Absent,
-            },
-        },
-    }
+    record_at(records, i).unwrap()
 }
 
 // Whether a row is of the kind with that code.
@@ -125,106 +98,59 @@ fn is_code(records: &[u64], i: usize, code: u64) -> bool
 // ---- 42
 
 // Whether a place of a row that begins at `at` lies within len bytes.
+#[tactic(auto, using(std::proofs::lemmas::Bool::Decides::nat_tests), unfolding(crate::specs::Lent::inside_at))]
 fn inside(len: usize, at: usize, place: Place) -> bool
     ensures { result ≡ inside_at len at place }
 {
     match place {
         Place::Absent => true,
-        Place::Present { start, end } => {
-            if end < start {
-                return false;
-            }
-            if len < at {
-                return false;
-            }
-            end <= len - at
-        }
+        Place::Present { start, end } => start <= end && at <= len && end <= len - at,
     }
 }
 
 // Whether a message's fields do.
+#[tactic(auto, unfolding(crate::specs::Lent::fields_inside))]
 fn message_inside(len: usize, at: usize, slots: Slots) -> bool
     ensures { result ≡ fields_inside len at Kind.RawMessage slots }
 {
-    let from = slots.first;
-    let data = slots.second;
-    let seqno = slots.third;
-    let signature = slots.fourth;
-    let key = slots.fifth;
-    if !inside(len, at, from) {
-        return false;
-    }
-    if !inside(len, at, data) {
-        return false;
-    }
-    if !inside(len, at, seqno) {
-        return false;
-    }
-    if !inside(len, at, signature) {
-        return false;
-    }
-    inside(len, at, key)
+    inside(len, at, slots.first)
+        && inside(len, at, slots.second)
+        && inside(len, at, slots.third)
+        && inside(len, at, slots.fourth)
+        && inside(len, at, slots.fifth)
 }
 
 // Whether the fields that a kind has do.
+#[tactic(auto, unfolding(crate::specs::Lent::fields_inside))]
 fn fields_inside(len: usize, at: usize, kind: Kind, slots: Slots) -> bool
     ensures { result ≡ fields_inside len at kind slots }
 {
-    let first = slots.first;
-    let second = slots.second;
     match kind {
-        Kind::Rpc(_) => true,
-        Kind::SubOpts => inside(len, at, first),
+        Kind::SubOpts | Kind::ControlGraft | Kind::ControlPrune => inside(len, at, slots.first),
+        Kind::PeerInfo => inside(len, at, slots.first) && inside(len, at, slots.second),
         Kind::RawMessage => message_inside(len, at, slots),
-        Kind::Topic => true,
-        Kind::ControlMessage(_) => true,
-        Kind::ControlIHave => true,
-        Kind::ControlIWant => true,
-        Kind::MessageId => true,
-        Kind::ControlGraft => inside(len, at, first),
-        Kind::ControlPrune => inside(len, at, first),
-        Kind::PeerInfo => {
-            if inside(len, at, first) {
-                return inside(len, at, second);
-            }
-            false
-        }
-        Kind::ControlIDontWant => true,
+        _ => true,
     }
 }
 
 // Whether a row and its fields lie within len bytes.
+#[tactic(auto, using(std::proofs::lemmas::Bool::Decides::nat_tests), unfolding(crate::specs::Lent::row_inside))]
 fn row_inside(len: usize, r: Record) -> bool
     ensures { result ≡ row_inside len r }
 {
-    if r.end < r.start {
-        return false;
-    }
-    if len < r.end {
-        return false;
-    }
-    let kind = r.kind;
-    let slots = r.slots;
-    fields_inside(len, r.start, kind, slots)
+    r.start <= r.end && r.end <= len && fields_inside(len, r.start, r.kind, r.slots)
 }
 
 // Whether a row of that kind may stand after a message or none, and after a prune or none.
+#[tactic(auto, unfolding(crate::specs::Lent::held_by))]
 fn held_by(message: bool, prune: bool, kind: Kind) -> bool
     ensures { result ≡ held_by message prune kind }
 {
     match kind {
-        Kind::Rpc(_) => false,
-        Kind::SubOpts => true,
-        Kind::RawMessage => true,
+        Kind::SubOpts | Kind::RawMessage | Kind::ControlGraft | Kind::ControlPrune => true,
         Kind::Topic => message,
-        Kind::ControlMessage(_) => false,
-        Kind::ControlIHave => false,
-        Kind::ControlIWant => false,
-        Kind::MessageId => false,
-        Kind::ControlGraft => true,
-        Kind::ControlPrune => true,
         Kind::PeerInfo => prune,
-        Kind::ControlIDontWant => false,
+        _ => false,
     }
 }
 
@@ -236,16 +162,11 @@ fn lent_well(records: &[u64], bytes: &[u8]) -> bool
         return false;
     }
     let n = records.len() / RECORD_WORDS;
-    let mut i = 0;
     let mut message = false;
     let mut prune = false;
-    while i < n {
+    for i in 0..n {
         let r = row_at(records, i);
-        let kind = r.kind;
-        if !held_by(message, prune, kind) {
-            return false;
-        }
-        if !row_inside(bytes.len(), r) {
+        if !held_by(message, prune, r.kind) || !row_inside(bytes.len(), r) {
             return false;
         }
         if is_code(records, i, RAW_MESSAGE) {
@@ -254,101 +175,89 @@ fn lent_well(records: &[u64], bytes: &[u8]) -> bool
         if is_code(records, i, CONTROL_PRUNE) {
             prune = true;
         }
-        i += 1;
     }
     true
+}
+
+// The bytes at a place of a row that begins at `at`; nothing where it is absent.
+#[tactic(auto, using(std::proofs::lemmas::Bool::Decides::nat_tests), unfolding(crate::specs::Lent::inside_at))]
+fn field_at<'b>(bytes: &'b [u8], at: usize, place: Place) -> Option<&'b [u8]>
+    requires { inside_at (length bytes.now) at place ≡ true }
+    ensures { option_copied result ≡ bytes_at bytes.now at place }
+{
+    match place {
+        Place::Absent => None,
+        Place::Present { start, end } => Some(&bytes[at + start..at + end]),
+    }
 }
 
 // ---- 7, 11
 
 // Whether the bytes from a to e are text.
-fn utf8_at(bytes: &[u8], a: usize, e: usize) -> Lists
+#[tactic(auto, unfolding(crate::specs::Compose::text_fine))]
+fn utf8_at(bytes: &[u8], a: usize, e: usize) -> Result<(), Wrong>
     requires { (a ≤ e) × (e ≤ length bytes.now) }
     ensures { result ≡ text_fine bytes.now (Place.Present a e) }
 {
     if is_utf8(&bytes[a..e]) {
-        return Lists::Fine;
+        return Ok(());
     }
-    Lists::Refused(Wrong::InvalidUtf8(a))
+    Err(Wrong::InvalidUtf8(a))
 }
 
 // Whether those at a place of a row that begins at `at` are.
-fn text_at(bytes: &[u8], at: usize, place: Place) -> Lists
+#[tactic(auto, using(std::proofs::lemmas::Bool::Decides::nat_tests), unfolding(crate::specs::Compose::text_fine, crate::specs::Lent::inside_at))]
+fn text_at(bytes: &[u8], at: usize, place: Place) -> Result<(), Wrong>
     requires { inside_at (length bytes.now) at place ≡ true }
     ensures { result ≡ text_fine bytes.now (moved at place) }
 {
     match place {
-        Place::Absent => Lists::Fine,
+        Place::Absent => Ok(()),
         Place::Present { start, end } => utf8_at(bytes, at + start, at + end),
     }
 }
 
 // Whether a row's topic is text.
-fn text_fine(bytes: &[u8], r: Record) -> Lists
+#[tactic(auto, using(std::proofs::lemmas::Bool::Decides::nat_tests), unfolding(crate::specs::Compose::text_of, crate::specs::Compose::text_fine, crate::specs::Lent::row_inside, crate::specs::Lent::fields_inside))]
+fn text_fine(bytes: &[u8], r: Record) -> Result<(), Wrong>
     requires { row_inside (length bytes.now) r ≡ true }
     ensures { result ≡ text_fine bytes.now (text_of r) }
 {
-    let kind = r.kind;
-    let slots = r.slots;
-    let first = slots.first;
-    match kind {
-        Kind::Rpc(_) => Lists::Fine,
-        Kind::SubOpts => text_at(bytes, r.start, first),
-        Kind::RawMessage => Lists::Fine,
+    match r.kind {
+        Kind::SubOpts | Kind::ControlGraft | Kind::ControlPrune => {
+            text_at(bytes, r.start, r.slots.first)
+        }
         Kind::Topic => utf8_at(bytes, r.start, r.end),
-        Kind::ControlMessage(_) => Lists::Fine,
-        Kind::ControlIHave => Lists::Fine,
-        Kind::ControlIWant => Lists::Fine,
-        Kind::MessageId => Lists::Fine,
-        Kind::ControlGraft => text_at(bytes, r.start, first),
-        Kind::ControlPrune => text_at(bytes, r.start, first),
-        Kind::PeerInfo => Lists::Fine,
-        Kind::ControlIDontWant => Lists::Fine,
+        _ => Ok(()),
     }
 }
 
 // The first topic that is not.
-fn texts_fine(records: &[u64], bytes: &[u8]) -> Lists
+fn texts_fine(records: &[u64], bytes: &[u8]) -> Result<(), Wrong>
     requires { Inside records.now bytes.now }
     ensures { result ≡ texts_fine bytes.now (lent_rows records.now) }
 {
     let n = records.len() / RECORD_WORDS;
-    let mut i = 0;
-    while i < n {
-        let r = row_at(records, i);
-        let fine = text_fine(bytes, r);
-        match fine {
-            Lists::Fine => {
-                i += 1;
-            }
-            Lists::Refused(why) => {
-                return Lists::Refused(why);
-            }
-        }
+    for i in 0..n {
+        text_fine(bytes, row_at(records, i))?;
     }
-    Lists::Fine
+    Ok(())
 }
 
 // 42, 7, 11.
-fn lists_of(records: &[u64], bytes: &[u8]) -> Lists
+#[tactic(auto, unfolding(crate::specs::Compose::lists_of, crate::specs::Compose::count_fine))]
+fn lists_of(records: &[u64], bytes: &[u8]) -> Result<(), Wrong>
     ensures { result ≡ lists_of records.now bytes.now }
 {
-    if lent_well(records, bytes) {
-        let fine = texts_fine(records, bytes);
-        match fine {
-            Lists::Refused(why) => {
-                return Lists::Refused(why);
-            }
-            Lists::Fine => {
-                let n = records.len() / RECORD_WORDS;
-                if MAX_RECORDS < n {
-                    return Lists::Refused(Wrong::TooManyRecords(n));
-                }
-                return Lists::Fine;
-            }
-        }
+    if !lent_well(records, bytes) {
+        return Err(Wrong::NotLent);
     }
-    Lists::Refused(Wrong::NotLent)
+    texts_fine(records, bytes)?;
+    let n = records.len() / RECORD_WORDS;
+    if MAX_RECORDS < n {
+        return Err(Wrong::TooManyRecords(n));
+    }
+    Ok(())
 }
 
 // ---- writing fields
@@ -378,13 +287,13 @@ fn emit_head(n: u64, len: usize, out: &mut [u8], at: usize) -> usize
     emit_varint(len as u64, out, i)
 }
 
-// The bytes from a to e, as a field n.
-fn emit_part(n: u64, bytes: &[u8], a: usize, e: usize, out: &mut [u8], at: usize) -> usize
-    requires { (n ≤ 6) × (a ≤ e) × (e ≤ length bytes.now) }
-    ensures { Puts out.old at (bytes_field n (between bytes.now a e)) out.new result }
+// Bytes as a field n.
+fn emit_part(n: u64, part: &[u8], out: &mut [u8], at: usize) -> usize
+    requires { n ≤ 6 }
+    ensures { Puts out.old at (bytes_field n part.now) out.new result }
 {
-    let i = emit_head(n, e - a, out, at);
-    emit_bytes(&bytes[a..e], out, i)
+    let i = emit_head(n, part.len(), out, at);
+    emit_bytes(part, out, i)
 }
 
 // A field of bytes, of a row that begins at `base`; nothing where it is absent.
@@ -392,9 +301,9 @@ fn emit_place(n: u64, bytes: &[u8], base: usize, place: Place, out: &mut [u8], a
     requires { (n ≤ 6) × (inside_at (length bytes.now) base place ≡ true) }
     ensures { Puts out.old at (optional (bytes_field n) (bytes_at bytes.now base place)) out.new result }
 {
-    match place {
-        Place::Absent => at,
-        Place::Present { start, end } => emit_part(n, bytes, base + start, base + end, out, at),
+    match field_at(bytes, base, place) {
+        None => at,
+        Some(part) => emit_part(n, part, out, at),
     }
 }
 
@@ -413,17 +322,13 @@ fn emit_number(n: u64, number: Number, out: &mut [u8], at: usize) -> usize
 }
 
 // Of a flag only whether it is zero is written.
+#[tactic(auto, using(std::proofs::lemmas::Bool::Decides::nat_tests), unfolding(crate::specs::Puts::flagged))]
 fn flag(number: Number) -> Number
     ensures { result ≡ flagged number }
 {
     match number {
         Number::Absent => Number::Absent,
-        Number::Present(v) => {
-            if v == 0 {
-                return Number::Present(0);
-            }
-            Number::Present(1)
-        }
+        Number::Present(v) => Number::Present(u64::from(v != 0)),
     }
 }
 
@@ -434,12 +339,8 @@ fn emit_sub_opts(bytes: &[u8], r: Record, out: &mut [u8], at: usize) -> usize
     requires { fields_inside (length bytes.now) r.start Kind.SubOpts r.slots ≡ true }
     ensures { Puts out.old at (encode_sub_opts (sub_opts_of bytes.now r)) out.new result }
 {
-    let slots = r.slots;
-    let number = slots.number;
-    let topic_id = slots.first;
-    let subscribe = flag(number);
-    let i = emit_number(1, subscribe, out, at);
-    emit_place(2, bytes, r.start, topic_id, out, i)
+    let i = emit_number(1, flag(r.slots.number), out, at);
+    emit_place(2, bytes, r.start, r.slots.first, out, i)
 }
 
 // A GRAFT.
@@ -447,9 +348,7 @@ fn emit_graft(bytes: &[u8], r: Record, out: &mut [u8], at: usize) -> usize
     requires { fields_inside (length bytes.now) r.start Kind.ControlGraft r.slots ≡ true }
     ensures { Puts out.old at (encode_graft (graft_of bytes.now r)) out.new result }
 {
-    let slots = r.slots;
-    let topic_id = slots.first;
-    emit_place(1, bytes, r.start, topic_id, out, at)
+    emit_place(1, bytes, r.start, r.slots.first, out, at)
 }
 
 // A PeerInfo.
@@ -457,11 +356,8 @@ fn emit_peer(bytes: &[u8], r: Record, out: &mut [u8], at: usize) -> usize
     requires { fields_inside (length bytes.now) r.start Kind.PeerInfo r.slots ≡ true }
     ensures { Puts out.old at (encode_peer_info (peer_of bytes.now r)) out.new result }
 {
-    let slots = r.slots;
-    let peer_id = slots.first;
-    let signed_peer_record = slots.second;
-    let i = emit_place(1, bytes, r.start, peer_id, out, at);
-    emit_place(2, bytes, r.start, signed_peer_record, out, i)
+    let i = emit_place(1, bytes, r.start, r.slots.first, out, at);
+    emit_place(2, bytes, r.start, r.slots.second, out, i)
 }
 
 // A PeerInfo as a field 2, measured before it is written.
@@ -469,8 +365,7 @@ fn emit_peer_field(bytes: &[u8], r: Record, out: &mut [u8], at: usize) -> usize
     requires { fields_inside (length bytes.now) r.start Kind.PeerInfo r.slots ≡ true }
     ensures { Puts out.old at (bytes_field 2 (encode_peer_info (peer_of bytes.now r))) out.new result }
 {
-    let mut none = [0u8; 1];
-    let len = emit_peer(bytes, r, &mut none, 0);
+    let len = emit_peer(bytes, r, &mut [], 0);
     let i = emit_head(2, len, out, at);
     let end = past(i, len);
     if out.len() < end {
@@ -486,8 +381,7 @@ fn emit_peer_at(records: &[u64], bytes: &[u8], i: usize, out: &mut [u8], at: usi
     ensures { Puts out.old at (peer_part bytes.now (record_from records.now (i * 20))) out.new result }
 {
     if is_code(records, i, PEER_INFO) {
-        let r = row_at(records, i);
-        return emit_peer_field(bytes, r, out, at);
+        return emit_peer_field(bytes, row_at(records, i), out, at);
     }
     at
 }
@@ -498,14 +392,12 @@ fn emit_peers(records: &[u64], bytes: &[u8], from: usize, out: &mut [u8], at: us
     ensures { Puts out.old at (repeated (λ p. bytes_field 2 (encode_peer_info p)) (peers_from bytes.now (rows_from records.now from))) out.new result }
 {
     let n = records.len() / RECORD_WORDS;
-    let mut i = from;
     let mut end = at;
-    while i < n {
+    for i in from..n {
         if is_code(records, i, CONTROL_PRUNE) {
             return end;
         }
         end = emit_peer_at(records, bytes, i, out, end);
-        i += 1;
     }
     end
 }
@@ -518,12 +410,9 @@ fn emit_prune(records: &[u64], bytes: &[u8], i: usize, out: &mut [u8], at: usize
     ensures { Puts out.old at (encode_prune (prune_of bytes.now (record_from records.now (i * 20)) (rows_from records.now (i + 1)))) out.new result }
 {
     let r = row_at(records, i);
-    let slots = r.slots;
-    let topic_id = slots.first;
-    let backoff = slots.number;
-    let j = emit_place(1, bytes, r.start, topic_id, out, at);
+    let j = emit_place(1, bytes, r.start, r.slots.first, out, at);
     let k = emit_peers(records, bytes, i + 1, out, j);
-    emit_number(3, backoff, out, k)
+    emit_number(3, r.slots.number, out, k)
 }
 
 // The row, where it is a topic.
@@ -534,7 +423,7 @@ fn emit_topic_at(records: &[u64], bytes: &[u8], i: usize, out: &mut [u8], at: us
 {
     if is_code(records, i, TOPIC) {
         let r = row_at(records, i);
-        return emit_part(4, bytes, r.start, r.end, out, at);
+        return emit_part(4, &bytes[r.start..r.end], out, at);
     }
     at
 }
@@ -545,40 +434,28 @@ fn emit_topics(records: &[u64], bytes: &[u8], from: usize, out: &mut [u8], at: u
     ensures { Puts out.old at (repeated (bytes_field 4) (topics_from bytes.now (rows_from records.now from))) out.new result }
 {
     let n = records.len() / RECORD_WORDS;
-    let mut i = from;
     let mut end = at;
-    while i < n {
+    for i in from..n {
         if is_code(records, i, RAW_MESSAGE) {
             return end;
         }
         end = emit_topic_at(records, bytes, i, out, end);
-        i += 1;
     }
     end
 }
 
 // The place of a message's singular field n.
+#[tactic(auto, using(std::proofs::lemmas::Bool::Decides::nat_tests), unfolding(crate::specs::Puts::slot_at))]
 fn slot_at(n: u64, slots: Slots) -> Place
     ensures { result ≡ slot_at n slots }
 {
-    let from = slots.first;
-    let data = slots.second;
-    let seqno = slots.third;
-    let signature = slots.fourth;
-    let key = slots.fifth;
-    if n == 1 {
-        return from;
+    match n {
+        1 => slots.first,
+        2 => slots.second,
+        3 => slots.third,
+        5 => slots.fourth,
+        _ => slots.fifth,
     }
-    if n == 2 {
-        return data;
-    }
-    if n == 3 {
-        return seqno;
-    }
-    if n == 5 {
-        return signature;
-    }
-    key
 }
 
 // The field n of the message r at a row: its topics are those after it.
@@ -599,9 +476,7 @@ fn emit_field(
     if n == 4 {
         return emit_topics(records, bytes, i + 1, out, at);
     }
-    let slots = r.slots;
-    let place = slot_at(n, slots);
-    emit_place(n, bytes, r.start, place, out, at)
+    emit_place(n, bytes, r.start, slot_at(n, r.slots), out, at)
 }
 
 // What is signed of a message at a row, after the prefix: from, data, seqno and its topics.
@@ -637,18 +512,12 @@ fn emit_row(records: &[u64], bytes: &[u8], i: usize, code: u64, out: &mut [u8], 
     requires code_value { eqb (kind_code (record_from records.now (i * 20)).kind) code ≡ true }
     ensures { Puts out.old at (row_bytes code bytes.now (record_from records.now (i * 20)) (rows_from records.now (i + 1))) out.new result }
 {
-    if code == SUB_OPTS {
-        let r = row_at(records, i);
-        return emit_sub_opts(bytes, r, out, at);
+    match code {
+        SUB_OPTS => emit_sub_opts(bytes, row_at(records, i), out, at),
+        RAW_MESSAGE => emit_message(records, bytes, i, out, at),
+        CONTROL_GRAFT => emit_graft(bytes, row_at(records, i), out, at),
+        _ => emit_prune(records, bytes, i, out, at),
     }
-    if code == RAW_MESSAGE {
-        return emit_message(records, bytes, i, out, at);
-    }
-    if code == CONTROL_GRAFT {
-        let r = row_at(records, i);
-        return emit_graft(bytes, r, out, at);
-    }
-    emit_prune(records, bytes, i, out, at)
 }
 
 // A row as a field n, measured before it is written.
@@ -667,8 +536,7 @@ fn emit_row_field(
     requires code_value { eqb (kind_code (record_from records.now (i * 20)).kind) code ≡ true }
     ensures { Puts out.old at (bytes_field n (row_bytes code bytes.now (record_from records.now (i * 20)) (rows_from records.now (i + 1)))) out.new result }
 {
-    let mut none = [0u8; 1];
-    let len = emit_row(records, bytes, i, code, &mut none, 0);
+    let len = emit_row(records, bytes, i, code, &mut [], 0);
     let j = emit_head(n, len, out, at);
     let end = past(j, len);
     if out.len() < end {
@@ -705,11 +573,9 @@ fn emit_rows(records: &[u64], bytes: &[u8], code: u64, n: u64, out: &mut [u8], a
     ensures { Puts out.old at (each_row code n bytes.now (lent_rows records.now)) out.new result }
 {
     let rows = records.len() / RECORD_WORDS;
-    let mut i = 0;
     let mut end = at;
-    while i < rows {
+    for i in 0..rows {
         end = emit_row_at(records, bytes, i, code, n, out, end);
-        i += 1;
     }
     end
 }
@@ -721,17 +587,7 @@ fn has_control(records: &[u64]) -> bool
     ensures { result ≡ has_row (lent_rows records.now) }
 {
     let n = records.len() / RECORD_WORDS;
-    let mut i = 0;
-    while i < n {
-        if is_code(records, i, CONTROL_GRAFT) {
-            return true;
-        }
-        if is_code(records, i, CONTROL_PRUNE) {
-            return true;
-        }
-        i += 1;
-    }
-    false
+    (0..n).any(|i| is_code(records, i, CONTROL_GRAFT) || is_code(records, i, CONTROL_PRUNE))
 }
 
 // The grafts, and then the prunes.
@@ -748,17 +604,16 @@ fn emit_control(records: &[u64], bytes: &[u8], out: &mut [u8], at: usize) -> usi
     requires { Inside records.now bytes.now }
     ensures { Puts out.old at (control_bytes bytes.now (lent_rows records.now)) out.new result }
 {
-    if has_control(records) {
-        let mut none = [0u8; 1];
-        let len = emit_entries(records, bytes, &mut none, 0);
-        let i = emit_head(3, len, out, at);
-        let end = past(i, len);
-        if out.len() < end {
-            return end;
-        }
-        return emit_entries(records, bytes, out, i);
+    if !has_control(records) {
+        return at;
     }
-    at
+    let len = emit_entries(records, bytes, &mut [], 0);
+    let i = emit_head(3, len, out, at);
+    let end = past(i, len);
+    if out.len() < end {
+        return end;
+    }
+    emit_entries(records, bytes, out, i)
 }
 
 // The RPC: subscriptions, messages, the control.
@@ -779,10 +634,9 @@ fn topics_from(records: &[u64], bytes: &[u8], from: usize) -> Topics
     ensures { result ≡ in_topics (topics_from bytes.now (rows_from records.now from)) }
 {
     let n = records.len() / RECORD_WORDS;
-    let mut i = from;
     let mut count: usize = 0;
     let mut long: usize = 0;
-    while i < n {
+    for i in from..n {
         if is_code(records, i, RAW_MESSAGE) {
             return Topics { count, long };
         }
@@ -790,264 +644,206 @@ fn topics_from(records: &[u64], bytes: &[u8], from: usize) -> Topics
             let r = row_at(records, i);
             let len = r.end - r.start;
             count += 1;
-            if long == 0 {
-                if MAX_TOPIC_SIZE < len {
-                    long = len;
-                }
+            if long == 0 && MAX_TOPIC_SIZE < len {
+                long = len;
             }
         }
-        i += 1;
     }
     Topics { count, long }
 }
 
 // 28, 29, 30.
-fn limits_fine(records: &[u64], bytes: &[u8], i: usize) -> Lists
+#[tactic(auto, using(std::proofs::lemmas::Bool::Decides::nat_tests), unfolding(crate::specs::Weighed::limits_fine, crate::specs::Weighed::topics_fine, crate::specs::Weighed::size_fine))]
+fn limits_fine(records: &[u64], bytes: &[u8], i: usize) -> Result<(), Wrong>
     requires inside { Inside records.now bytes.now }
     requires message_row { IsMessageRow records.now i }
     ensures { result ≡ limits_fine (message_of bytes.now (record_from records.now (i * 20)) (rows_from records.now (i + 1))) }
 {
     let t = topics_from(records, bytes, i + 1);
-    if t.count == 0 {
-        return Lists::Refused(Wrong::Unfit(Unfit::TopicCount(t.count)));
-    }
-    if MAX_TOPICS < t.count {
-        return Lists::Refused(Wrong::Unfit(Unfit::TopicCount(t.count)));
+    if t.count == 0 || MAX_TOPICS < t.count {
+        return Err(Wrong::Unfit(Unfit::TopicCount(t.count)));
     }
     if t.long != 0 {
-        return Lists::Refused(Wrong::Unfit(Unfit::TopicTooLong(t.long)));
+        return Err(Wrong::Unfit(Unfit::TopicTooLong(t.long)));
     }
-    let mut none = [0u8; 1];
-    let len = emit_message(records, bytes, i, &mut none, 0);
+    let len = emit_message(records, bytes, i, &mut [], 0);
     if MAX_MESSAGE_SIZE < len {
-        return Lists::Refused(Wrong::Unfit(Unfit::MessageTooLong(len)));
+        return Err(Wrong::Unfit(Unfit::MessageTooLong(len)));
     }
-    Lists::Fine
+    Ok(())
 }
 
 // 35, 36.
-fn key_fine(bytes: &[u8], sender: &[u8], base: usize, key: Place) -> Lists
-    requires { inside_at (length bytes.now) base key ≡ true }
-    ensures { result ≡ key_fine sender.now (bytes_at bytes.now base key) }
+#[tactic(auto, unfolding(crate::specs::Weighed::key_fine))]
+fn key_fine(sender: &[u8], key: Option<&[u8]>) -> Result<(), Wrong>
+    ensures { result ≡ key_fine sender.now (option_copied key.entry) }
 {
-    let Place::Present { start: a, end: e } = key else {
+    let Some(key) = key else {
         if key_inside(sender) {
-            return Lists::Fine;
+            return Ok(());
         }
-        return Lists::Refused(Wrong::Unfit(Unfit::KeyPeerIdMismatch));
+        return Err(Wrong::Unfit(Unfit::KeyPeerIdMismatch));
     };
-    if is_key(&bytes[base + a..base + e]) {
-        if key_matches(sender, &bytes[base + a..base + e]) {
-            return Lists::Fine;
-        }
-        return Lists::Refused(Wrong::Unfit(Unfit::KeyPeerIdMismatch));
+    if !is_key(key) {
+        return Err(Wrong::Unfit(Unfit::InvalidKey));
     }
-    Lists::Refused(Wrong::Unfit(Unfit::InvalidKey))
-}
-
-// The same, by where the sender stands.
-fn sender_key_fine(bytes: &[u8], base: usize, from: Place, key: Place) -> Lists
-    requires { (inside_at (length bytes.now) base from ≡ true) × (inside_at (length bytes.now) base key ≡ true) }
-    ensures { result ≡ key_fine (given (bytes_at bytes.now base from)) (bytes_at bytes.now base key) }
-{
-    let Place::Present { start: a, end: e } = from else {
-        return key_fine(bytes, b"", base, key);
-    };
-    key_fine(bytes, &bytes[base + a..base + e], base, key)
-}
-
-// How many bytes a field has, 0 where it is absent.
-fn len_at(bytes: &[u8], base: usize, place: Place) -> usize
-    requires { inside_at (length bytes.now) base place ≡ true }
-    ensures { result ≡ length (given (bytes_at bytes.now base place)) }
-{
-    match place {
-        Place::Absent => 0,
-        Place::Present { start, end } => end - start,
+    if key_matches(sender, key) {
+        return Ok(());
     }
+    Err(Wrong::Unfit(Unfit::KeyPeerIdMismatch))
 }
 
 // 26.
-fn signature_fine(bytes: &[u8], base: usize, signature: Place) -> Lists
-    requires { inside_at (length bytes.now) base signature ≡ true }
-    ensures { result ≡ signature_fine (given (bytes_at bytes.now base signature)) }
+#[tactic(auto, using(std::proofs::lemmas::Bool::Decides::nat_tests), unfolding(crate::specs::Weighed::signature_fine))]
+fn signature_fine(signature: &[u8]) -> Result<(), Wrong>
+    ensures { result ≡ signature_fine signature.now }
 {
-    let len = len_at(bytes, base, signature);
+    let len = signature.len();
     if len == SIGNATURE_LEN {
-        return Lists::Fine;
+        return Ok(());
     }
-    Lists::Refused(Wrong::Unfit(Unfit::InvalidSignatureLength(len)))
+    Err(Wrong::Unfit(Unfit::InvalidSignatureLength(len)))
 }
 
 // 23.
-fn seqno_fine(bytes: &[u8], base: usize, seqno: Place) -> Lists
-    requires { inside_at (length bytes.now) base seqno ≡ true }
-    ensures { result ≡ seqno_fine (given (bytes_at bytes.now base seqno)) }
+#[tactic(auto, using(std::proofs::lemmas::Bool::Decides::nat_tests), unfolding(crate::specs::Weighed::seqno_fine))]
+fn seqno_fine(seqno: &[u8]) -> Result<(), Wrong>
+    ensures { result ≡ seqno_fine seqno.now }
 {
-    let len = len_at(bytes, base, seqno);
-    if len == 0 {
-        return Lists::Refused(Wrong::Unfit(Unfit::InvalidSeqno));
+    if seqno.is_empty() || 64 < seqno.len() {
+        return Err(Wrong::Unfit(Unfit::InvalidSeqno));
     }
-    if 64 < len {
-        return Lists::Refused(Wrong::Unfit(Unfit::InvalidSeqno));
-    }
-    Lists::Fine
+    Ok(())
 }
 
 // 21, 22, 34.
-fn from_fine(bytes: &[u8], base: usize, from: Place) -> Lists
-    requires { inside_at (length bytes.now) base from ≡ true }
-    ensures { result ≡ from_fine (bytes_at bytes.now base from) }
+#[tactic(auto, using(std::proofs::lemmas::Bool::Decides::nat_tests), unfolding(crate::specs::Weighed::from_fine))]
+fn from_fine(from: Option<&[u8]>) -> Result<(), Wrong>
+    ensures { result ≡ from_fine (option_copied from.entry) }
 {
-    let Place::Present { start: a, end: e } = from else {
-        return Lists::Refused(Wrong::Unfit(Unfit::MissingFrom));
+    let Some(from) = from else {
+        return Err(Wrong::Unfit(Unfit::MissingFrom));
     };
-    let len = e - a;
-    if len == 0 {
-        return Lists::Refused(Wrong::Unfit(Unfit::InvalidFrom(len)));
+    if from.is_empty() || 64 < from.len() {
+        return Err(Wrong::Unfit(Unfit::InvalidFrom(from.len())));
     }
-    if 64 < len {
-        return Lists::Refused(Wrong::Unfit(Unfit::InvalidFrom(len)));
+    if is_peer_id(from) {
+        return Ok(());
     }
-    if is_peer_id(&bytes[base + a..base + e]) {
-        return Lists::Fine;
-    }
-    Lists::Refused(Wrong::Unfit(Unfit::NotPeerId))
+    Err(Wrong::Unfit(Unfit::NotPeerId))
 }
 
-// The first of two tests that is not passed.
-fn first(a: Lists, b: Lists) -> Lists
-    ensures { result ≡ and_then a b }
+// The bytes of a field, none where it is absent.
+fn given<'b>(field: Option<&'b [u8]>) -> &'b [u8]
+    ensures { result.now ≡ given (option_copied field.entry) }
 {
-    match a {
-        Lists::Fine => b,
-        Lists::Refused(why) => Lists::Refused(why),
-    }
+    field.unwrap_or(b"")
 }
 
 // 24 or 26, 35, 36; where unsigned messages are allowed, nothing of one with neither signature nor key.
+#[tactic(auto, unfolding(crate::specs::Weighed::backed_fine))]
 fn backed_fine(
-    bytes: &[u8],
-    base: usize,
-    from: Place,
-    signature: Place,
-    key: Place,
+    sender: &[u8],
+    signature: Option<&[u8]>,
+    key: Option<&[u8]>,
     unsigned: bool,
-) -> Lists
-    requires { (inside_at (length bytes.now) base from ≡ true) × (inside_at (length bytes.now) base signature ≡ true) × (inside_at (length bytes.now) base key ≡ true) }
-    ensures { result ≡ backed_fine unsigned (given (bytes_at bytes.now base from)) (bytes_at bytes.now base signature) (bytes_at bytes.now base key) }
+) -> Result<(), Wrong>
+    ensures { result ≡ backed_fine unsigned sender.now (option_copied signature.entry) (option_copied key.entry) }
 {
-    if let Place::Absent = signature {
-        if unsigned {
-            if let Place::Absent = key {
-                return Lists::Fine;
-            }
-            return Lists::Refused(Wrong::Unfit(Unfit::KeyWithoutSignature));
+    if unsigned && signature.is_none() {
+        if key.is_some() {
+            return Err(Wrong::Unfit(Unfit::KeyWithoutSignature));
         }
+        return Ok(());
     }
-    let c = signature_fine(bytes, base, signature);
-    let d = sender_key_fine(bytes, base, from, key);
-    first(c, d)
+    signature_fine(given(signature))?;
+    key_fine(sender, key)
 }
 
 // Whether the message at a row may be written under some flags.
-fn weigh(records: &[u64], bytes: &[u8], flags: usize, i: usize) -> Lists
+#[tactic(auto, unfolding(crate::specs::Weighed::weighed))]
+fn weigh(records: &[u64], bytes: &[u8], flags: usize, i: usize) -> Result<(), Wrong>
     requires inside { Inside records.now bytes.now }
     requires message_row { IsMessageRow records.now i }
     ensures { result ≡ weighed flags (message_of bytes.now (record_from records.now (i * 20)) (rows_from records.now (i + 1))) }
 {
     let r = row_at(records, i);
-    let base = r.start;
-    let slots = r.slots;
-    let from = slots.first;
-    let seqno = slots.third;
-    let signature = slots.fourth;
-    let key = slots.fifth;
-    let a = from_fine(bytes, base, from);
-    let b = seqno_fine(bytes, base, seqno);
-    let c = backed_fine(bytes, base, from, signature, key, allows_unsigned(flags));
-    let d = limits_fine(records, bytes, i);
-    first(a, first(b, first(c, d)))
+    let from = field_at(bytes, r.start, r.slots.first);
+    from_fine(from)?;
+    seqno_fine(given(field_at(bytes, r.start, r.slots.third)))?;
+    let signature = field_at(bytes, r.start, r.slots.fourth);
+    let key = field_at(bytes, r.start, r.slots.fifth);
+    backed_fine(given(from), signature, key, allows_unsigned(flags))?;
+    limits_fine(records, bytes, i)
 }
 
 // Message by message: the first that may not be written.
-fn messages_fine(records: &[u64], bytes: &[u8], flags: usize) -> Lists
+fn messages_fine(records: &[u64], bytes: &[u8], flags: usize) -> Result<(), Wrong>
     requires { Inside records.now bytes.now }
     ensures { result ≡ first_unfit flags (messages_in bytes.now (lent_rows records.now)) }
 {
     let n = records.len() / RECORD_WORDS;
-    let mut i = 0;
-    while i < n {
+    for i in 0..n {
         if is_code(records, i, RAW_MESSAGE) {
-            let fine = weigh(records, bytes, flags, i);
-            if let Lists::Refused(why) = fine {
-                return Lists::Refused(why);
-            }
+            weigh(records, bytes, flags, i)?;
         }
-        i += 1;
     }
-    Lists::Fine
+    Ok(())
 }
 
 // ---- the calls
 
 // Writes an RPC that was tested: 13, 12.
-fn write_tested(records: &[u64], bytes: &[u8], out: &mut [u8]) -> Composed
+fn write_tested(records: &[u64], bytes: &[u8], out: &mut [u8]) -> Result<usize, ComposeError>
     requires { Inside records.now bytes.now }
     ensures { Leaves (answering (put_answer (encode_rpc (said bytes.now (lent_rows records.now))) out.old) (length_fine (encode_rpc (said bytes.now (lent_rows records.now)))))
         (leaving out.old (written (encode_rpc (said bytes.now (lent_rows records.now))) out.old) (length_fine (encode_rpc (said bytes.now (lent_rows records.now)))))
         result out.new }
 {
-    let mut none = [0u8; 1];
-    let len = emit_rpc(records, bytes, &mut none);
+    let len = emit_rpc(records, bytes, &mut []);
     if MAX_RPC_SIZE < len {
-        return Composed::Refused(Wrong::TooLong(len));
+        return Err(ComposeError::Refused(Wrong::TooLong(len)));
     }
     if out.len() < len {
-        return Composed::Room(len);
+        return Err(ComposeError::Room(len));
     }
     emit_rpc(records, bytes, out);
-    Composed::Bytes(len)
+    Ok(len)
 }
 
 // Writes the RPC that the lists say at the front of the lent bytes, each of its messages as the flags allow it. A refusal, and a lack of room, leave them as they were.
-pub fn write_rpc(records: &[u64], bytes: &[u8], flags: usize, out: &mut [u8]) -> Composed
+pub fn write_rpc(
+    records: &[u64],
+    bytes: &[u8],
+    flags: usize,
+    out: &mut [u8],
+) -> Result<usize, ComposeError>
     ensures { Leaves (write_answer flags records.now bytes.now out.old)
         (write_left flags records.now bytes.now out.old) result out.new }
 {
     if !known_flags(flags) {
-        return Composed::Refused(Wrong::BadSetting);
+        return Err(ComposeError::Refused(Wrong::BadSetting));
     }
-    let lists = lists_of(records, bytes);
-    match lists {
-        Lists::Refused(why) => Composed::Refused(why),
-        Lists::Fine => {
-            let fine = messages_fine(records, bytes, flags);
-            match fine {
-                Lists::Refused(why) => Composed::Refused(why),
-                Lists::Fine => write_tested(records, bytes, out),
-            }
-        }
-    }
+    lists_of(records, bytes)?;
+    messages_fine(records, bytes, flags)?;
+    write_tested(records, bytes, out)
 }
 
-// The row of the message at an index.
-fn message_row(records: &[u64], bytes: &[u8], index: usize) -> Row
+// The row of the message at an index: 20.
+fn message_row(records: &[u64], bytes: &[u8], index: usize) -> Result<usize, Wrong>
     ensures { FindsRow records.now bytes.now index result }
 {
     let n = records.len() / RECORD_WORDS;
-    let mut i = 0;
     let mut count: usize = 0;
-    while i < n {
+    for i in 0..n {
         if is_code(records, i, RAW_MESSAGE) {
             if count == index {
-                return Row::At(i);
+                return Ok(i);
             }
             count += 1;
         }
-        i += 1;
     }
-    Row::Count(count)
+    Err(Wrong::NoMessage(count))
 }
 
 // The bytes to sign of the message at a row: the prefix, then its fields.
@@ -1061,36 +857,32 @@ fn emit_signed(records: &[u64], bytes: &[u8], i: usize, out: &mut [u8]) -> usize
 }
 
 // Writes them at the front of out: 12.
-fn sign_row(records: &[u64], bytes: &[u8], i: usize, out: &mut [u8]) -> Composed
+fn sign_row(records: &[u64], bytes: &[u8], i: usize, out: &mut [u8]) -> Result<usize, ComposeError>
     requires inside { Inside records.now bytes.now }
     requires message_row { IsMessageRow records.now i }
     ensures { Leaves (put_answer (sign_bytes (message_of bytes.now (record_from records.now (i * 20)) (rows_from records.now (i + 1)))) out.old)
         (written (sign_bytes (message_of bytes.now (record_from records.now (i * 20)) (rows_from records.now (i + 1)))) out.old) result out.new }
 {
-    let mut none = [0u8; 1];
-    let needed = emit_signed(records, bytes, i, &mut none);
+    let needed = emit_signed(records, bytes, i, &mut []);
     if out.len() < needed {
-        return Composed::Room(needed);
+        return Err(ComposeError::Room(needed));
     }
     emit_signed(records, bytes, i, out);
-    Composed::Bytes(needed)
+    Ok(needed)
 }
 
 // Writes the bytes to sign of the message at an index of the lists: the prefix, then from, data, seqno and every topic. A signature and a key, there or not,
 // change nothing.
-pub fn sign_fields(records: &[u64], bytes: &[u8], index: usize, out: &mut [u8]) -> Composed
+pub fn sign_fields(
+    records: &[u64],
+    bytes: &[u8],
+    index: usize,
+    out: &mut [u8],
+) -> Result<usize, ComposeError>
     ensures { Leaves (sign_answer records.now bytes.now index out.old)
         (sign_left records.now bytes.now index out.old) result out.new }
 {
-    let lists = lists_of(records, bytes);
-    match lists {
-        Lists::Refused(why) => Composed::Refused(why),
-        Lists::Fine => {
-            let row = message_row(records, bytes, index);
-            match row {
-                Row::Count(n) => Composed::Refused(Wrong::NoMessage(n)),
-                Row::At(i) => sign_row(records, bytes, i, out),
-            }
-        }
-    }
+    lists_of(records, bytes)?;
+    let i = message_row(records, bytes, index)?;
+    sign_row(records, bytes, i, out)
 }

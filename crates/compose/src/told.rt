@@ -2,7 +2,7 @@
 ghost use Rattle.std.specs.Prelude.{◌≡◌};
 ghost use Rattle.compose.specs.Told.{wrong_told, composed_told};
 
-use super::{Composed, Wrong};
+use super::{ComposeError, Wrong};
 use admission::told::told_unfit;
 use basis::{Told, refusals};
 
@@ -20,12 +20,12 @@ pub fn told_wrong(why: Wrong) -> Told
     }
 }
 
-pub fn told_composed(c: Composed) -> Told
+pub fn told_composed(c: Result<usize, ComposeError>) -> Told
     ensures { result ≡ composed_told c }
 {
     match c {
-        Composed::Bytes(count) => Told::one(0, count as u64),
-        Composed::Refused(why) => told_wrong(why),
-        Composed::Room(needed) => Told::one(refusals::SHORT_ROOM, needed as u64),
+        Ok(count) => Told::one(0, count as u64),
+        Err(ComposeError::Refused(why)) => told_wrong(why),
+        Err(ComposeError::Room(needed)) => Told::one(refusals::SHORT_ROOM, needed as u64),
     }
 }

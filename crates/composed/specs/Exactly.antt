@@ -1,7 +1,8 @@
 -- What `write_rpc` and `sign_fields` tell and leave, as the scope has it, both ways: bytes are written where no refusal holds, and each refusal is given exactly
 -- where the earlier ones do not hold. First the scope's words: which lists are lent well, which is the first topic that is no text, which message is the first
 -- that may not be written. Numbers are without bound; nothing wraps.
-use Rattle.std.specs.Prelude.{ℕ, zero, suc, ◌+◌, ◌/◌, ◌%◌, ◌≤◌, ◌<◌, ◌≡◌, Bool, true, false, ◌&&◌, ◌||◌, List, [], ◌∷◌, ◌++◌, ◌↔◌, length, drop, ltb, leb, eqb}
+use Rattle.std.specs.Prelude.{Result, Ok, Err, ℕ, zero, suc, ◌+◌, ◌/◌, ◌%◌, ◌≤◌, ◌<◌, ◌≡◌, Bool, true, false, ◌&&◌}
+use Rattle.std.specs.Prelude.{◌||◌, List, [], ◌∷◌, ◌++◌, ◌↔◌, length, drop, ltb, leb, eqb}
 use Rattle.std.proofs.Math.Path.{refl}
 use Rattle.std.proofs.Common.{sym, ap, ap₂, subst, ◌∙◌, arith}
 use borrow.Author.Tests.{ltb-true, ltb-false, lt-ltb, le-ltb, leb-true, leb-false, le-leb, lt-leb, eqb-true, eq-eqb}
@@ -31,8 +32,6 @@ use Rattle.canonical.specs.Calls.{Writes, fits, short}
 use Rattle.admission.specs.Flags.{known_flags}
 use Rattle.compose.specs.declared.Wrong.{Wrong}
 use Rattle.compose.specs.declared.Wrong.TheVariants.{NotLent, InvalidUtf8, TooManyRecords}
-use Rattle.compose.specs.declared.Lists.{Lists}
-use Rattle.compose.specs.declared.Lists.TheVariants.{Fine, Refused}
 use Rattle.compose.specs.Lent.{lent_rows, is_code, inside_at, fields_inside, row_inside, held_by, lent_from, lent_well}
 use Rattle.compose.specs.Said.{messages_in, said}
 use Rattle.compose.specs.Weighed.{capped, and_then, weighed, first_unfit}
@@ -118,11 +117,11 @@ pub record ListsFine (t b : List ℕ) : Type 0 where
 
 -- ---- message by message: the first that may not be written
 pub data FirstUnfit (flags : ℕ) : List RawMessage → Told → Type 0 where
-  unfit : {m : RawMessage} {ms : List RawMessage} {w : Wrong} → weighed flags m ≡ Refused w → FirstUnfit flags (m ∷ ms) (wrong_told w)
-  past : {m : RawMessage} {ms : List RawMessage} {a : Told} → weighed flags m ≡ Fine → FirstUnfit flags ms a → FirstUnfit flags (m ∷ ms) a
+  unfit : {m : RawMessage} {ms : List RawMessage} {w : Wrong} → weighed flags m ≡ Err w → FirstUnfit flags (m ∷ ms) (wrong_told w)
+  past : {m : RawMessage} {ms : List RawMessage} {a : Told} → weighed flags m ≡ Ok tt → FirstUnfit flags ms a → FirstUnfit flags (m ∷ ms) a
 
 abbrev pub AllFit : ℕ → List RawMessage → Type 0
-AllFit flags = Each (λ (m : RawMessage). weighed flags m ≡ Fine)
+AllFit flags = Each (λ (m : RawMessage). weighed flags m ≡ Ok tt)
 
 -- ---- what write_rpc tells and leaves: `encode_rpc (said ..)` are the bytes of the RPC that the lists say
 pub data WritesRpc (flags : ℕ) (t b out : List ℕ) : Told → List ℕ → Type 0 where
@@ -340,9 +339,9 @@ topic-is {r} (field {k = k} h t f) =
     ap (λ (k : Kind). text_in k r) h ∙ topic-moved r t ∙ ap (moved r.start) f
 
 -- what a row's topic is
-data TextSays (b : List ℕ) (r : Record) : Lists → Type 0 where
-  text : IsText b r → TextSays b r Fine
-  none : {a e : ℕ} → TopicAt r a e → (Utf8 (between b a e) → ⊥) → TextSays b r (Refused (InvalidUtf8 a))
+data TextSays (b : List ℕ) (r : Record) : Result (Unit {0}) Wrong → Type 0 where
+  text : IsText b r → TextSays b r (Ok tt)
+  none : {a e : ℕ} → TopicAt r a e → (Utf8 (between b a e) → ⊥) → TextSays b r (Err (InvalidUtf8 a))
 
 text_at : (b : List ℕ) (r : Record) (q : Place) → text_of r ≡ q → TextSays b r (text_fine b q)
 unfolding text_fine text_of
@@ -356,25 +355,25 @@ text_at b r (place.Present x y) h =
     subst Utf8 (ap₂ (between b) p q) ((utf8-exactly (between b x y)).0 t))))
     (λ t. simp t (none (topic-there r r.kind x y refl h) (λ u. let z = (utf8-exactly (between b x y)).1 u in clash (cc))))
 
-text-only : (b : List ℕ) (r : Record) (q : Place) → text_of r ≡ q → IsText b r → text_fine b q ≡ Fine
+text-only : (b : List ℕ) (r : Record) (q : Place) → text_of r ≡ q → IsText b r → text_fine b q ≡ Ok tt
 unfolding text_fine text_of
 text-only b r place.Absent h f = refl
 text-only b r (place.Present a e) h f =
     simp ((utf8-exactly (between b a e)).1 (f a e (topic-there r r.kind a e refl h)))
 
 none_only : (b : List ℕ) (r : Record) (a e : ℕ) → TopicAt r a e → (Utf8 (between b a e) → ⊥)
-    → text_fine b (text_of r) ≡ Refused (InvalidUtf8 a)
+    → text_fine b (text_of r) ≡ Err (InvalidUtf8 a)
 unfolding text_fine
 none_only b r a e t n =
     ap (text_fine b) (topic-is t)
     ∙ either (is_utf8 (between b a e)) (λ u. absurd (n ((utf8-exactly (between b a e)).0 u))) (λ u. simp u)
 
 -- ---- all topics, 42 and 11, both ways
-data TextsSay (b : List ℕ) (rs : List Record) : Lists → Type 0 where
-  texts : Each (IsText b) rs → TextsSay b rs Fine
-  none : {a : ℕ} → FirstBad b rs a → TextsSay b rs (Refused (InvalidUtf8 a))
+data TextsSay (b : List ℕ) (rs : List Record) : Result (Unit {0}) Wrong → Type 0 where
+  texts : Each (IsText b) rs → TextsSay b rs (Ok tt)
+  none : {a : ℕ} → FirstBad b rs a → TextsSay b rs (Err (InvalidUtf8 a))
 
-texts-step : {b : List ℕ} {r : Record} {rs : List Record} {x y : Lists} → TextSays b r x → TextsSay b rs y
+texts-step : {b : List ℕ} {r : Record} {rs : List Record} {x y : Result (Unit {0}) Wrong} → TextSays b r x → TextsSay b rs y
     → TextsSay b (r ∷ rs) (and_then x y)
 texts-step (text t) (texts u) = texts (t and u)
 texts-step (text t) (none u) = none (past t u)
@@ -384,18 +383,18 @@ texts_say : (b : List ℕ) (rs : List Record) → TextsSay b rs (texts_fine b rs
 texts_say b [] = texts none_left
 texts_say b (r ∷ rs) = texts-step (text_at b r (text_of r) refl) (texts_say b rs)
 
-texts-only : (b : List ℕ) {rs : List Record} → Each (IsText b) rs → texts_fine b rs ≡ Fine
+texts-only : (b : List ℕ) {rs : List Record} → Each (IsText b) rs → texts_fine b rs ≡ Ok tt
 texts-only b none_left = refl
 texts-only b (◌and◌ {x = r} t u) = rw (text-only b r (text_of r) refl t) (texts-only b u)
 
-bad-only : {b : List ℕ} {rs : List Record} {a : ℕ} → FirstBad b rs a → texts_fine b rs ≡ Refused (InvalidUtf8 a)
-bad-only {b} (bad {r = r} {rs = rs} {a = a} {e = e} t n) = ap (λ (x : Lists). and_then x (texts_fine b rs)) (none_only b r a e t n)
+bad-only : {b : List ℕ} {rs : List Record} {a : ℕ} → FirstBad b rs a → texts_fine b rs ≡ Err (InvalidUtf8 a)
+bad-only {b} (bad {r = r} {rs = rs} {a = a} {e = e} t n) = ap (λ (x : Result (Unit {0}) Wrong). and_then x (texts_fine b rs)) (none_only b r a e t n)
 bad-only {b} (past {r = r} {rs = rs} t u) =
-    ap (λ (x : Lists). and_then x (texts_fine b rs)) (text-only b r (text_of r) refl t) ∙ bad-only u
+    ap (λ (x : Result (Unit {0}) Wrong). and_then x (texts_fine b rs)) (text-only b r (text_of r) refl t) ∙ bad-only u
 
-data ListsSay (t b : List ℕ) : Lists → Type 0 where
-  fine : ListsFine t b → ListsSay t b Fine
-  refused : {w : Wrong} → ListsRefused t b (wrong_told w) → ListsSay t b (Refused w)
+data ListsSay (t b : List ℕ) : Result (Unit {0}) Wrong → Type 0 where
+  fine : ListsFine t b → ListsSay t b (Ok tt)
+  refused : {w : Wrong} → ListsRefused t b (wrong_told w) → ListsSay t b (Err w)
 
 module _ (t b : List ℕ) where
   counts_say : Lent t b → Each (IsText b) (lent_rows t) → ListsSay t b (count_fine (length t / 20))
@@ -404,7 +403,7 @@ module _ (t b : List ℕ) where
       either (ltb 512 (length t / 20)) (λ c. simp c (refused (too_many l u (ltb-true 512 (length t / 20) c))))
       (λ c. simp c (fine (record { lent = l; texts = u; few = ltb-false 512 (length t / 20) c })))
 
-  lent_say : Lent t b → {r : Lists} → TextsSay b (lent_rows t) r → ListsSay t b (and_then r (count_fine (length t / 20)))
+  lent_say : Lent t b → {r : Result (Unit {0}) Wrong} → TextsSay b (lent_rows t) r → ListsSay t b (and_then r (count_fine (length t / 20)))
   lent_say l (texts u) = counts_say l u
   lent_say l (none u) = refused (bad-topic l u)
 
@@ -414,11 +413,11 @@ module _ (t b : List ℕ) where
       either (lent_well t b) (λ c. simp c (lent_say ((lent-exactly t b).0 c) (texts_say b (lent_rows t))))
       (λ c. simp c (refused (not-lent (λ l. let z = (lent-exactly t b).1 l in clash (cc)))))
 
-  pub fine-only : ListsFine t b → lists_of t b ≡ Fine
+  pub fine-only : ListsFine t b → lists_of t b ≡ Ok tt
   unfolding lists_of count_fine
   fine-only f = simp ((lent-exactly t b).1 f.lent, texts-only b f.texts, le-ltb 512 (length t / 20) f.few)
 
-  pub refused-only : {a : Told} → ListsRefused t b a → (w : Wrong) × (lists_of t b ≡ Refused w) × (wrong_told w ≡ a)
+  pub refused-only : {a : Told} → ListsRefused t b a → (w : Wrong) × (lists_of t b ≡ Err w) × (wrong_told w ≡ a)
   unfolding lists_of count_fine
   refused-only (not-lent n) = (
     NotLent,
@@ -433,29 +432,30 @@ module _ (t b : List ℕ) where
   )
 
 -- ---- messages, both ways
-data UnfitSays (flags : ℕ) (ms : List RawMessage) : Lists → Type 0 where
-  all_fit : AllFit flags ms → UnfitSays flags ms Fine
-  none : {w : Wrong} → FirstUnfit flags ms (wrong_told w) → UnfitSays flags ms (Refused w)
+data UnfitSays (flags : ℕ) (ms : List RawMessage) : Result (Unit {0}) Wrong → Type 0 where
+  all_fit : AllFit flags ms → UnfitSays flags ms (Ok tt)
+  none : {w : Wrong} → FirstUnfit flags ms (wrong_told w) → UnfitSays flags ms (Err w)
 
-unfit-step : {flags : ℕ} {m : RawMessage} {ms : List RawMessage} {y : Lists} (x : Lists) → weighed flags m ≡ x → UnfitSays flags ms y
+unfit-step : {flags : ℕ} {m : RawMessage} {ms : List RawMessage} {y : Result (Unit {0}) Wrong} (x : Result (Unit {0}) Wrong)
+    → weighed flags m ≡ x → UnfitSays flags ms y
     → UnfitSays flags (m ∷ ms) (and_then x y)
-unfit-step Fine h (all_fit u) = all_fit (h and u)
-unfit-step Fine h (none u) = none (past h u)
-unfit-step (Refused w) h u = none (unfit h)
+unfit-step (Ok tt) h (all_fit u) = all_fit (h and u)
+unfit-step (Ok tt) h (none u) = none (past h u)
+unfit-step (Err w) h u = none (unfit h)
 
 unfit_say : (flags : ℕ) (ms : List RawMessage) → UnfitSays flags ms (first_unfit flags ms)
 unfit_say flags [] = all_fit none_left
 unfit_say flags (m ∷ ms) = unfit-step (weighed flags m) refl (unfit_say flags ms)
 
-pub fit-only : (flags : ℕ) {ms : List RawMessage} → AllFit flags ms → first_unfit flags ms ≡ Fine
+pub fit-only : (flags : ℕ) {ms : List RawMessage} → AllFit flags ms → first_unfit flags ms ≡ Ok tt
 fit-only flags none_left = refl
-fit-only flags (◌and◌ {x = m} {xs = ms} h u) = ap (λ (x : Lists). and_then x (first_unfit flags ms)) h ∙ fit-only flags u
+fit-only flags (◌and◌ {x = m} {xs = ms} h u) = ap (λ (x : Result (Unit {0}) Wrong). and_then x (first_unfit flags ms)) h ∙ fit-only flags u
 
-unfit-only : (flags : ℕ) {ms : List RawMessage} {a : Told} → FirstUnfit flags ms a → (w : Wrong) × (first_unfit flags ms ≡ Refused w)
+unfit-only : (flags : ℕ) {ms : List RawMessage} {a : Told} → FirstUnfit flags ms a → (w : Wrong) × (first_unfit flags ms ≡ Err w)
     × (wrong_told w ≡ a)
-unfit-only flags (unfit {ms = ms} {w = w} h) = (w, ap (λ (x : Lists). and_then x (first_unfit flags ms)) h, refl)
+unfit-only flags (unfit {ms = ms} {w = w} h) = (w, ap (λ (x : Result (Unit {0}) Wrong). and_then x (first_unfit flags ms)) h, refl)
 unfit-only flags (past {ms = ms} h u) =
-    let r = unfit-only flags u in (r.0, ap (λ (x : Lists). and_then x (first_unfit flags ms)) h ∙ r.1, r.2)
+    let r = unfit-only flags u in (r.0, ap (λ (x : Result (Unit {0}) Wrong). and_then x (first_unfit flags ms)) h ∙ r.1, r.2)
 
 -- ---- write_rpc
 -- a writer of bytes that a number of the machine counts
@@ -472,10 +472,10 @@ put_only h (fits k) = (simp (le-leb _ _ k), simp (le-leb _ _ k))
 put_only {xs} h (short k) = (simp (lt-leb _ _ k, capped_small (length xs) (omega arith)), simp (lt-leb _ _ k))
 
 module _ (flags : ℕ) (t b out : List ℕ) where
-  answer-by : Lists → Told
+  answer-by : Result (Unit {0}) Wrong → Told
   answer-by r = composed_told (answering (put_answer (encode_rpc (said b (lent_rows t))) out) r)
 
-  left_by_lem : Lists → List ℕ
+  left_by_lem : Result (Unit {0}) Wrong → List ℕ
   left_by_lem r = leaving out (written (encode_rpc (said b (lent_rows t))) out) r
 
   module _ (known : known_flags flags ≡ true) where
@@ -488,14 +488,14 @@ module _ (flags : ℕ) (t b out : List ℕ) where
         either (ltb 65536 (length xs)) (λ c. simp c (too_long known f u (ltb-true 65536 (length xs) c)))
         (λ c. let n = ltb-false 65536 (length xs) c in simp c (writes known f u n (put-writes xs out n)))
 
-    messages_say : ListsFine t b → {r : Lists} → UnfitSays flags (messages_in b (lent_rows t)) r
+    messages_say : ListsFine t b → {r : Result (Unit {0}) Wrong} → UnfitSays flags (messages_in b (lent_rows t)) r
         → WritesRpc flags t b out (answer-by (and_then r (length_fine (encode_rpc (said b (lent_rows t))))))
         (left_by_lem (and_then r (length_fine (encode_rpc (said b (lent_rows t))))))
     unfolding answer-by left_by_lem
     messages_say f (all_fit u) = long_say f u
     messages_say f (none u) = message-refused known f u
 
-    lists_write : {r : Lists} → ListsSay t b r
+    lists_write : {r : Result (Unit {0}) Wrong} → ListsSay t b r
         → WritesRpc flags t b out
         (answer-by (and_then r (and_then (first_unfit flags (messages_in b (lent_rows t))) (length_fine (encode_rpc (said b (lent_rows t)))))))
         (left_by_lem (and_then r (and_then (first_unfit flags (messages_in b (lent_rows t))) (length_fine (encode_rpc (said b (lent_rows t)))))))
@@ -563,7 +563,7 @@ module _ (t b : List ℕ) (i : ℕ) (out : List ℕ) where
       (λ c. simp c (short-of f n (leb-false _ _ c)))
   message_say f (none h) = no_such f h
 
-  sign_say : {r : Lists} → ListsSay t b r
+  sign_say : {r : Result (Unit {0}) Wrong} → ListsSay t b r
       → SignsFields t b i out
       (composed_told (answering (sign_at (length (messages_in b (lent_rows t))) (drop i (messages_in b (lent_rows t))) out) r))
       (leaving out (signed_at (drop i (messages_in b (lent_rows t))) out) r)

@@ -1,9 +1,9 @@
 -- What decode leaves in any dialect of a body without IHAVE, IWANT and IDONTWANT can be lent as it is, and says the
 -- same RPC with each message made anew; so every RPC that lists can say can be lent, and what was written, lent again,
 -- is written again.
-use Rattle.std.specs.Prelude.{ℕ, ◌+◌, ◌-◌, ◌*◌, ◌/◌, ◌%◌, ◌≤◌, ◌<◌, ◌≡◌, refl, true, false, List, [], ◌∷◌, ◌++◌, map, length, take, drop, eqb}
+use Rattle.std.specs.Prelude.{Option, Some, None, Ok, Result, ℕ, ◌+◌, ◌-◌, ◌*◌, ◌/◌, ◌%◌, ◌≤◌, ◌<◌, ◌≡◌, refl, true}
+use Rattle.std.specs.Prelude.{false, List, [], ◌∷◌, ◌++◌, map, length, take, drop, eqb}
 use Rattle.std.proofs.Common.{sym, ap, ap₂, subst, ◌∙◌, append-nil, arith, drop_of_length-le, take_at, eq-eqb, eqb-true, le-leb, le-ltb}
-use Rattle.std.proofs.Math.Option.{Option, none, some}
 use Rattle.std.proofs.lemmas.List.Edits.{sets, sets-eq}
 use Rattle.basis.specs.declared.Edition.TheVariants.{V11}
 use Rattle.basis.specs.declared.Mode.TheVariants as mode
@@ -13,8 +13,8 @@ use Rattle.basis.specs.Cases.{both}
 use Rattle.basis.specs.Bytes.{Bytes}
 use Rattle.basis.specs.Told.{done}
 use Rattle.basis.specs.Writing.{written}
+use Rattle.protobuf.specs.declared.Refusal.{Refusal}
 use Rattle.schema.specs.declared.Kind.TheVariants as kind
-use Rattle.schema.specs.declared.Tested.{Tested}
 use Rattle.message.specs.declared.Record.{Record}
 use Rattle.message.specs.Rows.{rows_of, words_of_all}
 use Rattle.message.specs.RowsLaws.{all-length}
@@ -31,9 +31,7 @@ use Rattle.meaning.specs.Size.{records_in, rpc-records}
 use Rattle.meaning.specs.Decoded.{Within, accepted-exactly, records-within}
 use Rattle.canonical.specs.Means.{opt}
 use Rattle.admission.specs.Flags.{known_flags}
-use Rattle.compose.specs.declared.Lists.{Lists}
-use Rattle.compose.specs.declared.Lists.TheVariants.{Fine}
-use Rattle.compose.specs.declared.Composed.TheVariants.{Bytes as Count}
+use Rattle.compose.specs.declared.Wrong.{Wrong}
 use Rattle.compose.specs.Lent.{lent_rows, lent_from, lent_well}
 use Rattle.compose.specs.Said.{encode_fields, encode_message, renewed, subscriptions_in, messages_in, grafts_in, prunes_in, control_of, said}
 use Rattle.compose.specs.Weighed.{limits_fine, and_then, weighed, first_unfit}
@@ -112,7 +110,7 @@ meant-lends {d} (is-rpc {s = s} {es = es} {ss = ss} {ms = ms} {cs = cs} g h1 h2 
           (record {
             well = and_both (eqb (length (words_of_all rs) % 20) 0) (lent_from (length s) false false (lent_rows (words_of_all rs)))
                 (words-whole rs) (subst (λ (r : List Record). lent_from (length s) false false r ≡ true) (sym k) l);
-            texts = subst (λ (r : List Record). texts_fine s r ≡ Fine) (sym k) u;
+            texts = subst (λ (r : List Record). texts_fine s r ≡ Ok tt) (sym k) u;
             few = omega arith;
           });
       says = ap (said s) k ∙ said-gathered s rs ss ms cs e;
@@ -134,7 +132,7 @@ decoded-words {d} {s} {x} table w r =
     let ws = words_of_all (rows_of d.mode (kind.Rpc d.edition) 0 s) in
     let l : length ws ≡ n * 20 = all-length (rows_of d.mode (kind.Rpc d.edition) 0 s)
     ∙ omega (arith, rpc-records w.means) in
-    ap (λ (c : Tested). take (n * 20) (leaves d s table (on_count (length table / 20) (has_control d.mode s) c)))
+    ap (λ (c : Result ℕ Refusal). take (n * 20) (leaves d s table (on_count (length table / 20) (has_control d.mode s) c)))
     (records-within w)
     ∙ simp (le-ltb (length table / 20) n r)
     (ap (take (n * 20)) (sets-eq ws table 0 (omega arith)) ∙ take_at ws (drop (0 + length ws) table) (n * 20) l)
@@ -173,20 +171,20 @@ publish-same none_left = refl
 publish-same (e and es) = ap₂ (λ (m : RawMessage) (ms : List RawMessage). m ∷ ms) (renewed-same e) (publish-same es)
 
 control-same : (gs : List ControlGraft) (ps : List ControlPrune) → 0 < length gs + length ps
-    → control_of gs ps ≡ some (record { ihave = []; iwant = []; graft = gs; prune = ps; idontwant = [] })
+    → control_of gs ps ≡ Some (record { ihave = []; iwant = []; graft = gs; prune = ps; idontwant = [] })
 control-same [] [] h = absurd (omega arith)
 control-same [] (p ∷ ps) h = refl
 control-same (g ∷ gs) ps h = refl
 
 spoken-same : (o : Option ControlMessage) → Each Spoken (opt o) → control_anew o ≡ o
-spoken-same none q = refl
-spoken-same (some c) (q and none_left) =
+spoken-same None q = refl
+spoken-same (Some c) (q and none_left) =
     control-same c.graft c.prune q.there
     ∙ ap₂ (λ (h : List ControlIHave) (w : List ControlIWant).
-    some (record { ihave = h; iwant = w; graft = c.graft; prune = c.prune; idontwant = [] })) (sym q.quiet.ihave)
+    Some (record { ihave = h; iwant = w; graft = c.graft; prune = c.prune; idontwant = [] })) (sym q.quiet.ihave)
     (sym q.quiet.iwant)
     ∙ ap (λ (n : List ControlIDontWant).
-    some (record { ihave = c.ihave; iwant = c.iwant; graft = c.graft; prune = c.prune; idontwant = n }))
+    Some (record { ihave = c.ihave; iwant = c.iwant; graft = c.graft; prune = c.prune; idontwant = n }))
     (sym q.quiet.idontwant)
 
 pub anew-same : (x : Rpc) → Sayable x → anew x ≡ x
@@ -233,8 +231,8 @@ unfit-said : (flags : ℕ) (b : List ℕ) (rs : List Record) → first_unfit fla
 unfolding said
 unfit-said flags b rs = unfit-renewed flags (messages_in b rs)
 
-pub lends-tested : (flags : ℕ) {t b : List ℕ} {x : Rpc} → Lends t b x → known_flags flags ≡ true → first_unfit flags x.publish ≡ Fine
-    → length (encode_rpc x) ≤ 65536 → write_tested flags t b ≡ Fine
+pub lends-tested : (flags : ℕ) {t b : List ℕ} {x : Rpc} → Lends t b x → known_flags flags ≡ true → first_unfit flags x.publish ≡ Ok tt
+    → length (encode_rpc x) ≤ 65536 → write_tested flags t b ≡ Ok tt
 lends-tested flags {t} {b} {x} d k f l =
     of-passed flags t b
     (record {
@@ -245,27 +243,27 @@ lends-tested flags {t} {b} {x} d k f l =
     })
 
 -- given room, its encoding is what is written
-pub lends-written : (flags : ℕ) {t b : List ℕ} {x : Rpc} → Lends t b x → known_flags flags ≡ true → first_unfit flags x.publish ≡ Fine
+pub lends-written : (flags : ℕ) {t b : List ℕ} {x : Rpc} → Lends t b x → known_flags flags ≡ true → first_unfit flags x.publish ≡ Ok tt
     → length (encode_rpc x) ≤ 65536 → (out : List ℕ) → length (encode_rpc x) ≤ length out
-    → (write_answer flags t b out ≡ Count (length (encode_rpc x))) × (write_left flags t b out ≡ encode_rpc x ++ drop (length (encode_rpc x)) out)
+    → (write_answer flags t b out ≡ Ok (length (encode_rpc x))) × (write_left flags t b out ≡ encode_rpc x ++ drop (length (encode_rpc x)) out)
 unfolding write_answer write_left put_answer written
 lends-written flags {t} {b} {x} d k f l out r =
     let e = lends-tested flags d k f l in
     let n = le-leb (length (encode_rpc x)) (length out) r in (
-      ap₂ (λ (y : Rpc) (z : Lists). answering (put_answer (encode_rpc y) out) z) d.says e ∙ simp n,
-      ap₂ (λ (y : Rpc) (z : Lists). leaving out (written (encode_rpc y) out) z) d.says e ∙ simp n,
+      ap₂ (λ (y : Rpc) (z : Result (Unit {0}) Wrong). answering (put_answer (encode_rpc y) out) z) d.says e ∙ simp n,
+      ap₂ (λ (y : Rpc) (z : Result (Unit {0}) Wrong). leaving out (written (encode_rpc y) out) z) d.says e ∙ simp n,
     )
 
 -- ---- what was written, lent again as decode leaves it, says the same RPC, and the same is written
-alike_of : (flags : ℕ) (t b u c : List ℕ) → write_tested flags t b ≡ Fine → write_tested flags u c ≡ Fine → said_of u c ≡ said_of t b
+alike_of : (flags : ℕ) (t b u c : List ℕ) → write_tested flags t b ≡ Ok tt → write_tested flags u c ≡ Ok tt → said_of u c ≡ said_of t b
     → Alike flags t b u c
 unfolding write_answer write_left
 alike_of flags t b u c e f g =
     record {
       tested = f;
       says = g;
-      answers = λ out. ap₂ (λ (x : Rpc) (r : Lists). answering (put_answer (encode_rpc x) out) r) g (f ∙ sym e);
-      leaves = λ out. ap₂ (λ (x : Rpc) (r : Lists). leaving out (written (encode_rpc x) out) r) g (f ∙ sym e);
+      answers = λ out. ap₂ (λ (x : Rpc) (r : Result (Unit {0}) Wrong). answering (put_answer (encode_rpc x) out) r) g (f ∙ sym e);
+      leaves = λ out. ap₂ (λ (x : Rpc) (r : Result (Unit {0}) Wrong). leaving out (written (encode_rpc x) out) r) g (f ∙ sym e);
     }
 
 whole_rows_lem : (t b : List ℕ) → lent_well t b ≡ true → length t % 20 ≡ 0
@@ -273,7 +271,7 @@ unfolding lent_well
 whole_rows_lem t b h =
     eqb-true (length t % 20) 0 (both (eqb (length t % 20) 0) (lent_from (length b) false false (lent_rows t)) h).0
 
-pub written-again : (d : Dialect) (flags : ℕ) (t b table : List ℕ) → Words t → write_tested flags t b ≡ Fine
+pub written-again : (d : Dialect) (flags : ℕ) (t b table : List ℕ) → Words t → write_tested flags t b ≡ Ok tt
     → length t ≤ length table
     → Alike flags t b (take (length t) (decode_table d (body_of t b) table)) (body_of t b)
 written-again d flags t b table w h l =

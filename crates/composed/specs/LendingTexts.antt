@@ -1,5 +1,5 @@
 -- On the way to what can be lent: of what is gathered it is seen that each row is held, and that its text is UTF-8; and an RPC that is meant has UTF-8 in texts and numbers below 2^64.
-use Rattle.std.specs.Prelude.{ℕ, ◌+◌, ◌≡◌, refl, Bool, true, ◌&&◌, ◌||◌, List, [], ◌∷◌, eqb}
+use Rattle.std.specs.Prelude.{Ok, ℕ, ◌+◌, ◌≡◌, refl, Bool, true, ◌&&◌, ◌||◌, List, [], ◌∷◌, eqb}
 use Rattle.std.proofs.Common.{sym, ◌∙◌}
 use Rattle.std.proofs.Math.Bool.{or-false, or-true}
 use Rattle.basis.specs.declared.Mode.{Mode}
@@ -22,7 +22,6 @@ use Rattle.meaning.specs.ReadBack.{bytes_at, Gathered, nothing, gather_kind, gat
 use Rattle.meaning.specs.Back.{state, flat}
 use Rattle.meaning.specs.Table.{AllRecords, each_append}
 use Rattle.canonical.specs.Means.{opt, each_last, numbers-small}
-use Rattle.compose.specs.declared.Lists.TheVariants.{Fine}
 use Rattle.compose.specs.Lent.{is_code, row_inside, held_by, lent_from}
 use Rattle.compose.specs.Compose.{moved, text_in, text_of, text_fine, texts_fine}
 use Rattle.composed.specs.Written.{PlainPrune, PlainControl}
@@ -128,11 +127,11 @@ waits_lent b n m p (r ∷ rs) (o and os) (i and is) w =
     (and_both (row_inside n r) (lent_from n m' p' rs) i (waits_lent b n m' p' rs os is h.rest))
 
 -- ---- texts
-between-text : (b : List ℕ) (a e : ℕ) → Utf8 (between b a e) → text_fine b (place.Present a e) ≡ Fine
+between-text : (b : List ℕ) (a e : ℕ) → Utf8 (between b a e) → text_fine b (place.Present a e) ≡ Ok tt
 unfolding text_fine
 between-text b a e u = simp ((exactly (between b a e)).1 u)
 
-at-text : (b : List ℕ) (at : ℕ) (p : Place) → Each Utf8 (opt (bytes_at b at p)) → text_fine b (moved at p) ≡ Fine
+at-text : (b : List ℕ) (at : ℕ) (p : Place) → Each Utf8 (opt (bytes_at b at p)) → text_fine b (moved at p) ≡ Ok tt
 unfolding text_fine
 at-text b at place.Absent u = refl
 at-text b at (place.Present a e) (u and none_left) = between-text b (at + a) (at + e) u
@@ -144,7 +143,7 @@ each_tail : {A : Type 0} {P : A → Type 0} {x : A} {xs : List A} → Each P (x 
 each_tail (p and ps) = ps
 
 record Told (k : Kind) (b : List ℕ) (r : Record) (g : Gathered) : Type 0 where
-  fine : text_fine b (text_in k r) ≡ Fine
+  fine : text_fine b (text_in k r) ≡ Ok tt
   rest : Texts g
 
 told_kind : (k : Kind) (b : List ℕ) (r : Record) (g : Gathered) → Texts (gather_kind k b r g) → Told k b r g
@@ -238,7 +237,7 @@ told_kind kind.ControlIDontWant b r g o =
       };
     }
 
-pub texts_fine_lem : (b : List ℕ) (rs : List Record) → Texts (gather b rs nothing) → texts_fine b rs ≡ Fine
+pub texts_fine_lem : (b : List ℕ) (rs : List Record) → Texts (gather b rs nothing) → texts_fine b rs ≡ Ok tt
 unfolding text_of
 texts_fine_lem b [] o = refl
 texts_fine_lem b (r ∷ rs) o =

@@ -1,5 +1,5 @@
 -- On the way to what can be lent: the words of a body's records are below 2^64.
-use Rattle.std.specs.Prelude.{ℕ, zero, suc, ◌+◌, ◌-◌, ◌^◌, ◌≤◌, ◌<◌, ◌≡◌, List, [], ◌∷◌, length, drop, eqb}
+use Rattle.std.specs.Prelude.{Result, Ok, Err, Option, Some, None, ℕ, zero, suc, ◌+◌, ◌-◌, ◌^◌, ◌≤◌, ◌<◌, ◌≡◌, List, [], ◌∷◌, length, drop, eqb}
 use Rattle.std.proofs.Math.Path.{refl}
 use Rattle.std.proofs.Common.{sym, subst, arith}
 use Rattle.basis.specs.declared.Mode.{Mode}
@@ -7,19 +7,11 @@ use Rattle.basis.specs.declared.Dialect.{Dialect}
 use Rattle.basis.specs.Cases.{either, clash}
 use Rattle.basis.specs.Bytes.{Bytes}
 use Rattle.basis.specs.Lists.{take-bytes, drop-bytes}
-use Rattle.peer_id.specs.declared.Uvarint.{Uvarint}
-use Rattle.peer_id.specs.declared.Uvarint.TheVariants.{Value as Read, Refused as Unread}
+use Rattle.peer_id.specs.declared.VarintError.{VarintError}
 use Rattle.peer_id.specs.Uvarint.{read_uvarint}
-use Rattle.protobuf.specs.declared.Tag.{Tag}
-use Rattle.protobuf.specs.declared.Tag.TheVariants as tag
-use Rattle.protobuf.specs.declared.Part.{Part}
-use Rattle.protobuf.specs.declared.Part.TheVariants as part
-use Rattle.protobuf.specs.declared.VarintValue.TheVariants as value
-use Rattle.protobuf.specs.declared.Skip.{Skip}
-use Rattle.protobuf.specs.declared.Skip.TheVariants as skip
 use Rattle.protobuf.specs.declared.Field.{Field}
-use Rattle.protobuf.specs.declared.Step.TheVariants as step
-use Rattle.protobuf.specs.Field.{after, read_tag, read_len, read_varint, skip_field, of_value, of_part, of_skip, read_value, of_tag, read_field}
+use Rattle.protobuf.specs.declared.WireError.{WireError}
+use Rattle.protobuf.specs.Field.{located, read_tag, read_len, read_varint, skip_field, of_value, of_part, of_skip, read_value, of_tag, read_field}
 use Rattle.protobuf.specs.Grammar.{max_groups}
 use Rattle.protobuf.specs.Laws.{part-fits}
 use Rattle.protobuf.specs.Spelt.{spelt}
@@ -50,34 +42,34 @@ use Rattle.composed.specs.Written.{Words}
 
 -- ---- a field's value
 module _ (mode : Mode) (s : List ℕ) (b : Bytes s) (l : length s < 2 ^ 64) (f : Field) where
-  varint-value : (n type to : ℕ) (r : Uvarint) → r ≡ read_uvarint (drop to s) → step.At f ≡ of_value n type to (after to value.Refused value.Value r)
+  varint-value : (n type to : ℕ) (r : Result (ℕ × ℕ) VarintError) → r ≡ read_uvarint (drop to s) → Ok (Some f) ≡ of_value n type to (located to r)
       → f.value < 2 ^ 64
-  varint-value n type to (Read x m) q h =
+  varint-value n type to (Ok (x, m)) q h =
       let z = spelt s to x m b q in let e : f.value ≡ x = cc in omega (arith, z.bound)
-  varint-value n type to (Unread why) q h = clash (cc)
+  varint-value n type to (Err why) q h = clash (cc)
 
-  part-value : (n type to : ℕ) (r : Part) → r ≡ read_len s to → step.At f ≡ of_part n type to r → f.value < 2 ^ 64
-  part-value n type to (part.Bytes a e) q h =
+  part-value : (n type to : ℕ) (r : Result (ℕ × ℕ) WireError) → r ≡ read_len s to → Ok (Some f) ≡ of_part n type to r → f.value < 2 ^ 64
+  part-value n type to (Ok (a, e)) q h =
       let m = part-fits s to a e q in let z : f.value ≡ e - a = cc in omega arith
-  part-value n type to (part.Refused why) q h = clash (cc)
+  part-value n type to (Err why) q h = clash (cc)
 
-  skip_value_lem : (n type to : ℕ) (r : Skip) → step.At f ≡ of_skip n type to r → f.value < 2 ^ 64
-  skip_value_lem n type to (skip.Next e) h = let z : f.value ≡ 0 = cc in omega arith
-  skip_value_lem n type to (skip.Refused why) h = clash (cc)
+  skip_value_lem : (n type to : ℕ) (r : Result ℕ WireError) → Ok (Some f) ≡ of_skip n type to r → f.value < 2 ^ 64
+  skip_value_lem n type to (Ok e) h = let z : f.value ≡ 0 = cc in omega arith
+  skip_value_lem n type to (Err why) h = clash (cc)
 
-  read_value_lem : (n type to : ℕ) → step.At f ≡ read_value mode s n type to → f.value < 2 ^ 64
+  read_value_lem : (n type to : ℕ) → Ok (Some f) ≡ read_value mode s n type to → f.value < 2 ^ 64
   unfolding read_value read_varint
   read_value_lem n type to h =
       either (eqb type 0) (λ t0. varint-value n type to (read_uvarint (drop to s)) refl (simp t0 at h))
       (λ t0. either (eqb type 2) (λ t2. part-value n type to (read_len s to) refl (simp (t0, t2) at h))
       (λ t2. skip_value_lem n type to (skip_field mode max_groups s to n type) (simp (t0, t2) at h)))
 
-  tag-value : (r : Tag) → step.At f ≡ of_tag mode s r → f.value < 2 ^ 64
-  tag-value tag.End h = clash (cc)
-  tag-value (tag.Refused why) h = clash (cc)
-  tag-value (tag.Field n type to) h = read_value_lem n type to h
+  tag-value : (r : Result (Option (ℕ × ℕ × ℕ)) WireError) → Ok (Some f) ≡ of_tag mode s r → f.value < 2 ^ 64
+  tag-value (Ok None) h = clash (cc)
+  tag-value (Err why) h = clash (cc)
+  tag-value (Ok (Some (n, type, to))) h = read_value_lem n type to h
 
-  field-value : (at : ℕ) → step.At f ≡ read_field mode s at → f.value < 2 ^ 64
+  field-value : (at : ℕ) → Ok (Some f) ≡ read_field mode s at → f.value < 2 ^ 64
   unfolding read_field
   field-value at h = tag-value (read_tag s at) h
 

@@ -1,8 +1,7 @@
 -- The encoding of an RPC that lists can say means it in every dialect, where texts are UTF-8, numbers are below 2^64
 -- and the whole fits a length; and within capacity it is accepted.
-use Rattle.std.specs.Prelude.{ℕ, ◌+◌, ◌^◌, ◌≤◌, ◌<◌, ◌≡◌, refl, cond, List, [], ◌∷◌, ◌++◌, length, eqb}
+use Rattle.std.specs.Prelude.{Option, Some, None, ℕ, ◌+◌, ◌^◌, ◌≤◌, ◌<◌, ◌≡◌, refl, cond, List, [], ◌∷◌, ◌++◌, length, eqb}
 use Rattle.std.proofs.Common.{sym, ap, ap₂, subst, ◌∙◌, append-nil, arith, length-append, eqb-true}
-use Rattle.std.proofs.Math.Option.{Option, none, some}
 use Rattle.basis.specs.declared.Mode.{Mode}
 use Rattle.basis.specs.declared.Dialect.{Dialect}
 use Rattle.basis.specs.Cases.{either}
@@ -173,8 +172,8 @@ control_of_lem d c p q k =
 
 controls-of : (d : Dialect) (o : Option ControlMessage) → Each PlainControl (opt o) → Each Spoken (opt o)
     → length (optional (λ c. bytes_field 3 (encode_control c)) o) < 2 ^ 64 → Each (Sound d) (opt o)
-controls-of d none p q k = none_left
-controls-of d (some c) (p and none_left) (q and none_left) k =
+controls-of d None p q k = none_left
+controls-of d (Some c) (p and none_left) (q and none_left) k =
     let g = field-holds 3 (encode_control c) in control_of_lem d c p q (omega arith) and none_left
 
 -- ---- the RPC

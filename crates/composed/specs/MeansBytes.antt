@@ -1,7 +1,6 @@
 -- What is written is bytes where what is lent is.
-use Rattle.std.specs.Prelude.{ℕ, zero, suc, ◌+◌, ◌*◌, ◌/◌, ◌%◌, ◌-◌, ◌≤◌, ◌<◌, List, [], ◌∷◌, map, length, drop, ltb}
+use Rattle.std.specs.Prelude.{Option, Some, None, ℕ, zero, suc, ◌+◌, ◌*◌, ◌/◌, ◌%◌, ◌-◌, ◌≤◌, ◌<◌, List, [], ◌∷◌, map, length, drop, ltb}
 use Rattle.std.proofs.Common.{sym, subst, arith, ltb-true, ltb-false}
-use Rattle.std.proofs.Math.Option.{Option, none, some}
 use Rattle.basis.specs.Cases.{either}
 use Rattle.basis.specs.Bytes.{Bytes}
 use Rattle.basis.specs.Lists.{take-bytes, drop-bytes}
@@ -58,12 +57,12 @@ field-low n d h =
     (each_append (uvarint-low (length d)) h)
 
 optional-low : (n : ℕ) (o : Option (List ℕ)) → Each Low (opt o) → Low (optional (bytes_field n) o)
-optional-low n none h = none_left
-optional-low n (some d) (p and none_left) = field-low n d p
+optional-low n None h = none_left
+optional-low n (Some d) (p and none_left) = field-low n d p
 
 number-low : {A : Type 0} (n : ℕ) (f : A → ℕ) (o : Option A) → Low (optional (λ v. varint_field n (f v)) o)
-number-low n f none = none_left
-number-low n f (some v) = varint-low n (f v)
+number-low n f None = none_left
+number-low n f (Some v) = varint-low n (f v)
 
 repeated-low : {X : Type 0} (n : ℕ) (enc : X → List ℕ) (xs : List X) → Each (λ x. Low (enc x)) xs
     → Low (repeated (λ x. bytes_field n (enc x)) xs)

@@ -1,7 +1,7 @@
 -- Which numbers the calls tell: write_rpc never tells 25 or 27, and 24 exactly where the first message that may not be written has a key and no signature, unsigned
 -- messages being allowed; and 0 is told exactly where no refusal holds.
 -- The lengths beside 13 and 30 are exact where they are below 2^64.
-use Rattle.std.specs.Prelude.{ℕ, ◌^◌, ◌≤◌, ◌<◌, ◌≡◌, refl, Bool, true, false, cond, ◌||◌, List, [], ◌∷◌, ◌++◌, ◌↔◌, length, drop, ltb, eqb}
+use Rattle.std.specs.Prelude.{Ok, Err, ℕ, ◌^◌, ◌≤◌, ◌<◌, ◌≡◌, refl, Bool, true, false, cond, ◌||◌, List, [], ◌∷◌, ◌++◌, ◌↔◌, length, drop, ltb, eqb}
 use Rattle.std.proofs.Common.{sym, ap, subst, ◌∙◌, arith}
 use Rattle.basis.specs.Cases.{either, clash}
 use Rattle.basis.specs.declared.Told.{Told}
@@ -18,7 +18,6 @@ use Rattle.admission.specs.Flags.{known_flags, allows_unsigned}
 use Rattle.admission.specs.Told.{unfit_told}
 use Rattle.compose.specs.declared.Wrong.{Wrong}
 use Rattle.compose.specs.declared.Wrong.TheVariants.{Unfit}
-use Rattle.compose.specs.declared.Lists.TheVariants.{Fine, Refused}
 use Rattle.compose.specs.Lent.{lent_rows}
 use Rattle.compose.specs.Said.{messages_in, said}
 use Rattle.compose.specs.Weighed.{capped, size_fine, weighed}
@@ -98,7 +97,7 @@ never n m ks h k e = let z : one_of m ks ≡ true = subst (λ (x : ℕ). one_of 
 -- 24: the first message that may not be written has a key and no signature
 pub data FirstKeyAlone (flags : ℕ) : List RawMessage → Type 0 where
   alone : {m : RawMessage} {ms : List RawMessage} → KeyAlone flags m → FirstKeyAlone flags (m ∷ ms)
-  after : {m : RawMessage} {ms : List RawMessage} → weighed flags m ≡ Fine → FirstKeyAlone flags ms → FirstKeyAlone flags (m ∷ ms)
+  after : {m : RawMessage} {ms : List RawMessage} → weighed flags m ≡ Ok tt → FirstKeyAlone flags ms → FirstKeyAlone flags (m ∷ ms)
 
 pub record KeyTold (flags : ℕ) (t b : List ℕ) : Type 0 where
   pub known : known_flags flags ≡ true
@@ -125,7 +124,7 @@ first_key : {flags : ℕ} {ms : List RawMessage} {a : Told} → FirstUnfit flags
 first_key {flags} (unfit {m = m} {w = w} h) e =
     let x = weighed-number flags m w h in
     let n = by_number x.unfit (sym (ap (λ (z : Wrong). (wrong_told z).number) x.is) ∙ e) in
-    alone ((key-alone flags m).0 (h ∙ ap Refused (x.is ∙ ap Unfit n)))
+    alone ((key-alone flags m).0 (h ∙ ap Err (x.is ∙ ap Unfit n)))
 first_key (past h u) e = after h (first_key u e)
 
 key-first : (flags : ℕ) {ms : List RawMessage} → FirstKeyAlone flags ms → FirstUnfit flags ms (wrong_told (Unfit why.KeyWithoutSignature))
@@ -268,6 +267,6 @@ long-told flags t b out e h =
     (p.0, p.1 ∙ capped_small (length (encode_rpc (said b (lent_rows t)))) (omega arith))
 
 -- and so does 30
-pub size-told : (n : ℕ) → n < 2 ^ 64 → size_fine n ≡ cond (ltb 4096 n) (Refused (Unfit (why.MessageTooLong n))) Fine
+pub size-told : (n : ℕ) → n < 2 ^ 64 → size_fine n ≡ cond (ltb 4096 n) (Err (Unfit (why.MessageTooLong n))) (Ok tt)
 unfolding size_fine
 size-told n h = rw (capped_small n (omega arith))

@@ -1,6 +1,6 @@
 -- Lists and answers, worked out, as one theorem over the calls: for every lent buffer, what `write_rpc` and `sign_fields` tell and leave. Each row is computed.
 -- The flags are 0, where no others are named.
-use Rattle.std.specs.Prelude.{ℕ, zero, suc, ◌/◌, ◌%◌, ◌<◌, ◌≡◌, refl, true, false, cond, List, [], ◌∷◌, ◌++◌, drop, replicate, leb}
+use Rattle.std.specs.Prelude.{Result, Ok, Err, ℕ, zero, suc, ◌/◌, ◌%◌, ◌<◌, ◌≡◌, refl, true, false, cond, List, [], ◌∷◌, ◌++◌, drop, replicate, leb}
 use Rattle.std.proofs.Common.{ap, ◌∙◌, leb-true}
 use native.Mathlib.Omega.{arith}
 use Rattle.std.proofs.Math.ListN.{length}
@@ -36,13 +36,13 @@ use Rattle.rpc.specs.Grammar.{none_left, ◌and◌}
 use Rattle.canonical.specs.Calls.{Writes, fits, short}
 use Rattle.compose.specs.declared.Wrong.{Wrong}
 use Rattle.compose.specs.declared.Wrong.TheVariants.{BadSetting, NotLent, InvalidUtf8, TooManyRecords, Unfit, TooLong}
-use Rattle.compose.specs.declared.Lists.{Lists}
-use Rattle.compose.specs.declared.Lists.TheVariants.{Fine, Refused}
 use Rattle.compose.specs.Lent.{lent_rows, inside_at, fields_inside, row_inside, held_by, lent_from, lent_well}
 use Rattle.compose.specs.Said.{encode_fields, encode_message, subscriptions_in, messages_in, grafts_in, prunes_in, topics_from, peers_from, said}
-use Rattle.compose.specs.Weighed.{capped, and_then, from_fine, seqno_fine, signature_fine, key_fine, backed_fine, topics_fine, size_fine, limits_fine, weighed}
+use Rattle.compose.specs.Weighed.{capped, and_then, from_fine, seqno_fine, signature_fine, key_fine, backed_fine}
+use Rattle.compose.specs.Weighed.{topics_fine, size_fine, limits_fine, weighed}
 use Rattle.compose.specs.Weighed.{first_unfit}
-use Rattle.compose.specs.Compose.{text_of, text_fine, texts_fine, count_fine, lists_of, length_fine, flags_fine, write_tested, write_answer, write_left}
+use Rattle.compose.specs.Compose.{text_of, text_fine, texts_fine, count_fine, lists_of, length_fine, flags_fine}
+use Rattle.compose.specs.Compose.{write_tested, write_answer, write_left}
 use Rattle.compose.specs.Compose.{sign_answer, sign_left}
 use Rattle.compose.specs.Told.{wrong_told, composed_told}
 use Rattle.compose.specs.Off.{tested-unknown}
@@ -106,17 +106,17 @@ abbrev pub from : ℕ → Record → Record
 from a r = record { kind = r.kind; start = a; end = a; slots = r.slots }
 
 -- ---- from what is computed of lists to what the calls tell and leave
-writes-by : (flags : ℕ) (t b xs : List ℕ) → write_tested flags t b ≡ Fine → encode_rpc (said b (lent_rows t)) ≡ xs
+writes-by : (flags : ℕ) (t b xs : List ℕ) → write_tested flags t b ≡ Ok tt → encode_rpc (said b (lent_rows t)) ≡ xs
     → leb (length xs) 65536 ≡ true → WritesUnder flags t b xs
 unfolding write_answer write_left
 writes-by flags t b xs h e l out =
     rw (h, e) (put-writes xs out (leb-true (length xs) 65536 l))
 
-refuses-by : (flags : ℕ) (t b : List ℕ) (w : Wrong) → write_tested flags t b ≡ Refused w → RefusesUnder flags t b (wrong_told w)
+refuses-by : (flags : ℕ) (t b : List ℕ) (w : Wrong) → write_tested flags t b ≡ Err w → RefusesUnder flags t b (wrong_told w)
 unfolding write_answer write_left
 refuses-by flags t b w h out = (rw h, rw h)
 
-signs-by : (t b xs : List ℕ) (i : ℕ) (m : RawMessage) (r : List RawMessage) → lists_of t b ≡ Fine
+signs-by : (t b xs : List ℕ) (i : ℕ) (m : RawMessage) (r : List RawMessage) → lists_of t b ≡ Ok tt
     → drop i (messages_in b (lent_rows t)) ≡ m ∷ r → sign_bytes m ≡ xs → leb (length xs) 65536 ≡ true → SignsAs t b i xs
 unfolding sign_answer sign_left
 signs-by t b xs i m r h d e l out = rw (h, d, e) (put-writes xs out (leb-true (length xs) 65536 l))
@@ -258,8 +258,8 @@ messages =
     }
 
 -- ---- many rows, and long ones: by the rows, and not by the words of the table
-lists_by : List Record → List ℕ → ℕ → Lists
-lists_by rs b n = cond (lent_from (length b) false false rs) (and_then (texts_fine b rs) (count_fine n)) (Refused NotLent)
+lists_by : List Record → List ℕ → ℕ → Result (Unit {0}) Wrong
+lists_by rs b n = cond (lent_from (length b) false false rs) (and_then (texts_fine b rs) (count_fine n)) (Err NotLent)
 
 module _ (rs : List Record) (b : List ℕ) (n : ℕ) (own : AllRecords rs) (h : length rs ≡ n) where
   lists_by_lem : lists_of (words_of_all rs) b ≡ lists_by rs b n
@@ -300,14 +300,14 @@ pub record LargeRows : Type 0 where
       (told rpc-too_long (66400 ∷ []))
 
 large-by : (rs : List Record) (b xs : List ℕ) (n : ℕ) → AllRecords rs → length rs ≡ n
-    → and_then (lists_by rs b n) (and_then (first_unfit 0 (messages_in b rs)) (length_fine (encode_rpc (said b rs)))) ≡ Fine
+    → and_then (lists_by rs b n) (and_then (first_unfit 0 (messages_in b rs)) (length_fine (encode_rpc (said b rs)))) ≡ Ok tt
     → encode_rpc (said b rs) ≡ xs → leb (length xs) 65536 ≡ true → WritesAs (words_of_all rs) b xs
 large-by rs b xs n own h k e l =
     writes-by 0 (words_of_all rs) b xs (tested-by rs b n own h ∙ k)
     (ap (λ (z : List Record). encode_rpc (said b z)) (words-lent rs own) ∙ e) l
 
 large-refused : (rs : List Record) (b : List ℕ) (n : ℕ) (w : Wrong) → AllRecords rs → length rs ≡ n
-    → and_then (lists_by rs b n) (and_then (first_unfit 0 (messages_in b rs)) (length_fine (encode_rpc (said b rs)))) ≡ Refused w
+    → and_then (lists_by rs b n) (and_then (first_unfit 0 (messages_in b rs)) (length_fine (encode_rpc (said b rs)))) ≡ Err w
     → RefusesAs (words_of_all rs) b (wrong_told w)
 large-refused rs b n w own h k = refuses-by 0 (words_of_all rs) b w (tested-by rs b n own h ∙ k)
 

@@ -1,7 +1,7 @@
 -- What is signed of a message that lists say: the prefix and the fields 1 to 4; a signature and a key, there or not, change nothing. So the bytes to sign that
 -- `sign_fields` gives before there is a signature are those that `sign_bytes` finds in every dialect in a body written
 -- with any.
-use Rattle.std.specs.Prelude.{ℕ, ◌≤◌, ◌≡◌, length, drop, leb}
+use Rattle.std.specs.Prelude.{Ok, ℕ, ◌≤◌, ◌≡◌, length, drop, leb}
 use Rattle.std.proofs.Math.Path.{refl, ap}
 use Rattle.std.proofs.Common.{sym, subst, ◌∙◌, arith, length-append}
 use mathlib.Core.List.{List, ◌∷◌, ◌++◌, map, append-nil}
@@ -23,7 +23,6 @@ use Rattle.canonical.specs.Means.{Sized}
 use Rattle.canonical.specs.Modes.{unsigned}
 use Rattle.canonical.specs.Calls.{found_in}
 use Rattle.encode.specs.Sign as body
-use Rattle.compose.specs.declared.Lists.TheVariants.{Fine}
 use Rattle.compose.specs.Lent.{lent_rows}
 use Rattle.compose.specs.Said.{encode_fields, encode_message, renewed, messages_in, said}
 use Rattle.compose.specs.Weighed.{weighed, first_unfit}
@@ -74,7 +73,7 @@ nth_renewed : {i : ℕ} {ms : List RawMessage} {m : RawMessage} → Nth i ms m �
 nth_renewed here = here
 nth_renewed (there n) = there (nth_renewed n)
 
-module _ (t b : List ℕ) (i : ℕ) (m : RawMessage) (h : lists_of t b ≡ Fine) (n : Nth i (messages_in b (lent_rows t)) m) where
+module _ (t b : List ℕ) (i : ℕ) (m : RawMessage) (h : lists_of t b ≡ Ok tt) (n : Nth i (messages_in b (lent_rows t)) m) where
   pub sign_tells : (out : List ℕ) → sign_answer t b i out ≡ put_answer (sign_bytes m) out
   unfolding sign_answer
   sign_tells out =
@@ -117,16 +116,16 @@ sign_small : (m : RawMessage) → length (encode_message m) ≤ 4096 → length 
 unfolding encode_message
 sign_small m h = rw (sign_bytes_are m) (omega (arith, simp length-append at h, length-append sign_prefix (encode_fields m)))
 
-nth_weighed : (flags : ℕ) {i : ℕ} {ms : List RawMessage} {m : RawMessage} → Nth i ms m → first_unfit flags ms ≡ Fine
-    → weighed flags m ≡ Fine
+nth_weighed : (flags : ℕ) {i : ℕ} {ms : List RawMessage} {m : RawMessage} → Nth i ms m → first_unfit flags ms ≡ Ok tt
+    → weighed flags m ≡ Ok tt
 nth_weighed flags (here {x = m} {xs = ms}) h = (both-fine (weighed flags m) (first_unfit flags ms) h).0
 nth_weighed flags (there {x = x} {xs = ms} n) h = nth_weighed flags n (both-fine (weighed flags x) (first_unfit flags ms) h).1
 
 -- ---- of two lendings, message i of which has the same from, data, seqno and topics: what `sign_fields` tells and leaves on
 -- the first is what `sign_bytes` tells and leaves on a body w of the second, which may be written under some flags
 pub signs-alike : (d : Dialect) (flags : ℕ) (t₁ b₁ t₂ b₂ w : List ℕ) (i : ℕ) (m₁ m₂ : RawMessage)
-    → lists_of t₁ b₁ ≡ Fine → Nth i (messages_in b₁ (lent_rows t₁)) m₁
-    → write_tested flags t₂ b₂ ≡ Fine → Nth i (messages_in b₂ (lent_rows t₂)) m₂
+    → lists_of t₁ b₁ ≡ Ok tt → Nth i (messages_in b₁ (lent_rows t₁)) m₁
+    → write_tested flags t₂ b₂ ≡ Ok tt → Nth i (messages_in b₂ (lent_rows t₂)) m₂
     → SameFields m₁ m₂ → Within d w (said b₂ (lent_rows t₂)) → (out : List ℕ)
     → (composed_told (sign_answer t₁ b₁ i out) ≡ message_told (body.sign_answer d w i out))
     × (sign_left t₁ b₁ i out ≡ body.sign_left d w i out)

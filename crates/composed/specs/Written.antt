@@ -1,6 +1,5 @@
 -- What the theorems about written RPCs suppose of what is lent and of an RPC.
-use Rattle.std.specs.Prelude.{ℕ, ◌+◌, ◌^◌, ◌≤◌, ◌<◌, ◌≡◌, List, [], ◌∷◌, ◌++◌, map, length, drop, get_or, eqb}
-use Rattle.std.proofs.Math.Option.{Option, none, some}
+use Rattle.std.specs.Prelude.{Option, Some, None, Ok, ℕ, ◌+◌, ◌^◌, ◌≤◌, ◌<◌, ◌≡◌, List, [], ◌∷◌, ◌++◌, map, length, drop, get_or, eqb}
 use Rattle.basis.specs.declared.Dialect.{Dialect}
 use Rattle.basis.specs.Bytes.{Bytes}
 use Rattle.basis.specs.Told.{done}
@@ -14,7 +13,6 @@ use Rattle.meaning.specs.ReadBack.{read_back}
 use Rattle.meaning.specs.Table.{rows_in}
 use Rattle.meaning.specs.Decoded.{present}
 use Rattle.canonical.specs.Means.{opt, Small}
-use Rattle.compose.specs.declared.Lists.TheVariants.{Fine}
 use Rattle.compose.specs.Lent.{lent_rows}
 use Rattle.compose.specs.Said.{encode_message, renewed, control_of, said}
 use Rattle.compose.specs.Compose.{lists_of, write_tested, write_answer, write_left}
@@ -54,8 +52,8 @@ pub record Sayable (x : Rpc) : Type 0 where
 
 -- what they say of an RPC that was read: each message made anew, and no empty control
 abbrev pub control_anew : Option ControlMessage → Option ControlMessage
-control_anew none = none
-control_anew (some c) = control_of c.graft c.prune
+control_anew None = None
+control_anew (Some c) = control_of c.graft c.prune
 
 abbrev pub anew : Rpc → Rpc
 anew x =
@@ -75,7 +73,7 @@ body_of t b = encode_rpc (said_of t b)
 
 -- n bytes were written under some flags: every test was passed, they are those of the RPC, they fit, and nothing else of the buffer changed
 pub record Wrote (flags : ℕ) (t b out : List ℕ) (n : ℕ) : Type 0 where
-  pub tested : write_tested flags t b ≡ Fine
+  pub tested : write_tested flags t b ≡ Ok tt
   pub count : n ≡ length (body_of t b)
   pub fits : n ≤ length out
   pub left : write_left flags t b out ≡ body_of t b ++ drop n out
@@ -88,14 +86,14 @@ pub record Reads (d : Dialect) (s : List ℕ) (x : Rpc) (n : ℕ) (table : List 
 
 -- lists u over c say the same RPC as t over b, and are written alike under some flags
 pub record Alike (flags : ℕ) (t b u c : List ℕ) : Type 0 where
-  pub tested : write_tested flags u c ≡ Fine
+  pub tested : write_tested flags u c ≡ Ok tt
   pub says : said_of u c ≡ said_of t b
   pub answers : (out : List ℕ) → write_answer flags u c out ≡ write_answer flags t b out
   pub leaves : (out : List ℕ) → write_left flags u c out ≡ write_left flags t b out
 
 -- lists that are lent well, of at most 512 rows with UTF-8 in topics, and say an RPC
 pub record Lends (t b : List ℕ) (x : Rpc) : Type 0 where
-  pub fine : lists_of t b ≡ Fine
+  pub fine : lists_of t b ≡ Ok tt
   pub says : said_of t b ≡ x
 
 -- lists that can be lent and say an RPC

@@ -1,6 +1,6 @@
 -- A write that is not refused leaves the encoding of the RPC that the lists say; these bytes are accepted and mean that
 -- RPC in every dialect, and decode's records of them read back as it.
-use Rattle.std.specs.Prelude.{ℕ, ◌/◌, ◌%◌, ◌≤◌, ◌≡◌, refl, true, false, List, ◌++◌, length, drop, leb, eqb}
+use Rattle.std.specs.Prelude.{Result, Ok, Err, ℕ, ◌/◌, ◌%◌, ◌≤◌, ◌≡◌, refl, true, false, List, ◌++◌, length, drop, leb, eqb}
 use Rattle.std.proofs.Common.{sym, ap, ◌∙◌, arith, leb-true}
 use Rattle.basis.specs.declared.Dialect.{Dialect}
 use Rattle.basis.specs.Cases.{either, clash, both}
@@ -8,9 +8,7 @@ use Rattle.basis.specs.Bytes.{Bytes}
 use Rattle.basis.specs.Writing.{written}
 use Rattle.meaning.specs.Size.{records_in}
 use Rattle.meaning.specs.Decoded.{present, Within, accepted-exactly, table-means}
-use Rattle.compose.specs.declared.Lists.{Lists}
-use Rattle.compose.specs.declared.Lists.TheVariants as lists
-use Rattle.compose.specs.declared.Composed.TheVariants.{Bytes as Count}
+use Rattle.compose.specs.declared.Wrong.{Wrong}
 use Rattle.compose.specs.Lent.{lent_rows, lent_from, lent_well}
 use Rattle.compose.specs.Compose.{put_answer, answering, leaving, write_tested, write_answer, write_left}
 use Rattle.compose.specs.Laws.{rows-length}
@@ -20,7 +18,7 @@ use Rattle.composed.specs.MeansBytes.{said-bytes}
 use Rattle.composed.specs.WrittenRows.{passed-of, said_plain, said_sayable, said-records}
 
 -- ---- what a write leaves
-put_count : (xs out : List ℕ) (n : ℕ) → put_answer xs out ≡ Count n
+put_count : (xs out : List ℕ) (n : ℕ) → put_answer xs out ≡ Ok n
     → (n ≡ length xs) × (n ≤ length out) × (written xs out ≡ xs ++ drop n out)
 unfolding put_answer written
 put_count xs out n h =
@@ -29,16 +27,16 @@ put_count xs out n h =
     (sym e, omega arith, simp t (ap (λ (k : ℕ). xs ++ drop k out) e)))
     (λ t. clash (let z = simp t at h in cc))
 
-wrote_of : (flags : ℕ) (t b out : List ℕ) (n : ℕ) (r : Lists) → write_tested flags t b ≡ r
-    → answering (put_answer (body_of t b) out) r ≡ Count n
+wrote_of : (flags : ℕ) (t b out : List ℕ) (n : ℕ) (r : Result (Unit {0}) Wrong) → write_tested flags t b ≡ r
+    → answering (put_answer (body_of t b) out) r ≡ Ok n
     → Wrote flags t b out n
 unfolding write_left
-wrote_of flags t b out n lists.Fine e h =
+wrote_of flags t b out n (Ok tt) e h =
     let g = put_count (body_of t b) out n h in
     record { tested = e; count = g.0; fits = g.1; left = ap (leaving out (written (body_of t b) out)) e ∙ g.2 }
-wrote_of flags t b out n (lists.Refused why) e h = clash (cc)
+wrote_of flags t b out n (Err why) e h = clash (cc)
 
-pub write_leaves : (flags : ℕ) (t b out : List ℕ) (n : ℕ) → write_answer flags t b out ≡ Count n → Wrote flags t b out n
+pub write_leaves : (flags : ℕ) (t b out : List ℕ) (n : ℕ) → write_answer flags t b out ≡ Ok n → Wrote flags t b out n
 unfolding write_answer
 write_leaves flags t b out n h = wrote_of flags t b out n (write_tested flags t b) refl h
 
@@ -51,7 +49,7 @@ well-from t b h = (both (eqb (length t % 20) 0) (lent_from (length b) false fals
 pub lent-records : (t b : List ℕ) → lent_well t b ≡ true → records_in (said_of t b) ≡ length t / 20
 lent-records t b h = said-records b (length b) (lent_rows t) (well-from t b h) ∙ rows-length t
 
-module _ (d : Dialect) (flags : ℕ) (t b : List ℕ) (w : Words t) (h : write_tested flags t b ≡ lists.Fine) where
+module _ (d : Dialect) (flags : ℕ) (t b : List ℕ) (w : Words t) (h : write_tested flags t b ≡ Ok tt) where
   -- they are accepted, and mean the RPC that the lists say
   pub written-means : Within d (body_of t b) (said_of t b)
   written-means =

@@ -1,5 +1,6 @@
 -- On the way to what is written: what rows say that pass the tests. Its texts are UTF-8 and its numbers are below 2^64; each row is one record; nothing waits for a holder.
-use Rattle.std.specs.Prelude.{ℕ, zero, suc, ◌+◌, ◌-◌, ◌*◌, ◌/◌, ◌≤◌, ◌≡◌, refl, Bool, true, false, ◌&&◌, ◌||◌, List, [], ◌∷◌, map, length, get_or, ltb, eqb}
+use Rattle.std.specs.Prelude.{Result, Ok, Err, ℕ, zero, suc, ◌+◌, ◌-◌, ◌*◌, ◌/◌, ◌≤◌, ◌≡◌, refl, Bool, true, false}
+use Rattle.std.specs.Prelude.{◌&&◌, ◌||◌, List, [], ◌∷◌, map, length, get_or, ltb, eqb}
 use Rattle.std.proofs.Common.{ap, ◌∙◌, arith, ltb-false, le-ltb}
 use Rattle.std.proofs.Math.Bool.{or-false}
 use Rattle.basis.specs.Cases.{either, clash, both}
@@ -23,8 +24,7 @@ use Rattle.meaning.specs.Table.{rows_in}
 use Rattle.meaning.specs.Size.{sum_of, some_records, records_in, weight, size-gather}
 use Rattle.canonical.specs.Means.{opt, Small}
 use Rattle.admission.specs.Flags.{known_flags}
-use Rattle.compose.specs.declared.Lists.{Lists}
-use Rattle.compose.specs.declared.Lists.TheVariants.{Fine, Refused}
+use Rattle.compose.specs.declared.Wrong.{Wrong}
 use Rattle.compose.specs.Lent.{lent_rows, is_code, row_inside, held_by, lent_from, lent_well}
 use Rattle.compose.specs.Said.{encode_fields, encode_message, renewed, subscriptions_in, messages_in, grafts_in, prunes_in, control_of, said}
 use Rattle.compose.specs.Weighed.{and_then, first_unfit}
@@ -32,28 +32,28 @@ use Rattle.compose.specs.Compose.{moved, text_in, text_of, text_fine, texts_fine
 use Rattle.composed.specs.Written.{Words, PlainPrune, PlainControl, Plain, Spoken, Sayable}
 
 -- ---- what the tests say
-pub both-fine : (p q : Lists) → and_then p q ≡ Fine → (p ≡ Fine) × (q ≡ Fine)
-both-fine Fine q h = (refl, h)
-both-fine (Refused why) q h = clash (cc)
+pub both-fine : (p q : Result (Unit {0}) Wrong) → and_then p q ≡ Ok tt → (p ≡ Ok tt) × (q ≡ Ok tt)
+both-fine (Ok tt) q h = (refl, h)
+both-fine (Err why) q h = clash (cc)
 
-pub fine-both : (p q : Lists) → p ≡ Fine → q ≡ Fine → and_then p q ≡ Fine
+pub fine-both : (p q : Result (Unit {0}) Wrong) → p ≡ Ok tt → q ≡ Ok tt → and_then p q ≡ Ok tt
 fine-both p q e f = rw (e, f)
 
 -- lists that both calls take
 pub record Taken (t b : List ℕ) : Type 0 where
   pub well : lent_well t b ≡ true
-  pub texts : texts_fine b (lent_rows t) ≡ Fine
+  pub texts : texts_fine b (lent_rows t) ≡ Ok tt
   pub few : length t / 20 ≤ 512
 
-count-few : (n : ℕ) → count_fine n ≡ Fine → n ≤ 512
+count-few : (n : ℕ) → count_fine n ≡ Ok tt → n ≤ 512
 unfolding count_fine
 count-few n h = either (ltb 512 n) (λ t. clash (let z = simp t at h in cc)) (λ t. ltb-false 512 n t)
 
-few-count : (n : ℕ) → n ≤ 512 → count_fine n ≡ Fine
+few-count : (n : ℕ) → n ≤ 512 → count_fine n ≡ Ok tt
 unfolding count_fine
 few-count n h = simp (le-ltb 512 n h)
 
-pub taken_of : (t b : List ℕ) → lists_of t b ≡ Fine → Taken t b
+pub taken_of : (t b : List ℕ) → lists_of t b ≡ Ok tt → Taken t b
 unfolding lists_of
 taken_of t b h =
     either (lent_well t b)
@@ -61,7 +61,7 @@ taken_of t b h =
     record { well = w; texts = g.0; few = count-few (length t / 20) g.1 })
     (λ w. clash (let z = simp w at h in cc))
 
-pub of-taken : (t b : List ℕ) → Taken t b → lists_of t b ≡ Fine
+pub of-taken : (t b : List ℕ) → Taken t b → lists_of t b ≡ Ok tt
 unfolding lists_of
 of-taken t b h =
     simp h.well (fine-both (texts_fine b (lent_rows t)) (count_fine (length t / 20)) h.texts (few-count (length t / 20) h.few))
@@ -70,26 +70,26 @@ of-taken t b h =
 pub record Passed (flags : ℕ) (t b : List ℕ) : Type 0 where
   pub known : known_flags flags ≡ true
   pub taken : Taken t b
-  pub fit : first_unfit flags (messages_in b (lent_rows t)) ≡ Fine
+  pub fit : first_unfit flags (messages_in b (lent_rows t)) ≡ Ok tt
   pub short : length (encode_rpc (said b (lent_rows t))) ≤ 65536
 
-length-short : (xs : List ℕ) → length_fine xs ≡ Fine → length xs ≤ 65536
+length-short : (xs : List ℕ) → length_fine xs ≡ Ok tt → length xs ≤ 65536
 unfolding length_fine
 length-short xs h = either (ltb 65536 (length xs)) (λ t. clash (let z = simp t at h in cc)) (λ t. ltb-false 65536 (length xs) t)
 
-short-length : (xs : List ℕ) → length xs ≤ 65536 → length_fine xs ≡ Fine
+short-length : (xs : List ℕ) → length xs ≤ 65536 → length_fine xs ≡ Ok tt
 unfolding length_fine
 short-length xs h = simp (le-ltb 65536 (length xs) h)
 
-flags-known : (flags : ℕ) → flags_fine flags ≡ Fine → known_flags flags ≡ true
+flags-known : (flags : ℕ) → flags_fine flags ≡ Ok tt → known_flags flags ≡ true
 unfolding flags_fine
 flags-known flags h = either (known_flags flags) (λ t. t) (λ t. clash (let z = simp t at h in cc))
 
-known_flags_lem : (flags : ℕ) → known_flags flags ≡ true → flags_fine flags ≡ Fine
+known_flags_lem : (flags : ℕ) → known_flags flags ≡ true → flags_fine flags ≡ Ok tt
 unfolding flags_fine
 known_flags_lem flags h = simp h
 
-pub passed-of : (flags : ℕ) (t b : List ℕ) → write_tested flags t b ≡ Fine → Passed flags t b
+pub passed-of : (flags : ℕ) (t b : List ℕ) → write_tested flags t b ≡ Ok tt → Passed flags t b
 unfolding write_tested
 passed-of flags t b h =
     let xs = encode_rpc (said b (lent_rows t)) in
@@ -99,7 +99,7 @@ passed-of flags t b h =
     let k = both-fine ms (length_fine xs) g.1 in
     record { known = flags-known flags f.0; taken = taken_of t b g.0; fit = k.0; short = length-short xs k.1 }
 
-pub of-passed : (flags : ℕ) (t b : List ℕ) → Passed flags t b → write_tested flags t b ≡ Fine
+pub of-passed : (flags : ℕ) (t b : List ℕ) → Passed flags t b → write_tested flags t b ≡ Ok tt
 unfolding write_tested
 of-passed flags t b h =
     let xs = encode_rpc (said b (lent_rows t)) in
@@ -109,12 +109,12 @@ of-passed flags t b h =
     (fine-both ms (length_fine xs) h.fit (short-length xs h.short)))
 
 -- ---- a row's text and number
-text-between : (b : List ℕ) (a e : ℕ) → text_fine b (place.Present a e) ≡ Fine → Utf8 (between b a e)
+text-between : (b : List ℕ) (a e : ℕ) → text_fine b (place.Present a e) ≡ Ok tt → Utf8 (between b a e)
 unfolding text_fine
 text-between b a e h =
     either (is_utf8 (between b a e)) (λ t. (exactly (between b a e)).0 t) (λ t. clash (let z = simp t at h in cc))
 
-text_at : (b : List ℕ) (at : ℕ) (p : Place) → text_fine b (moved at p) ≡ Fine → Each Utf8 (opt (bytes_at b at p))
+text_at : (b : List ℕ) (at : ℕ) (p : Place) → text_fine b (moved at p) ≡ Ok tt → Each Utf8 (opt (bytes_at b at p))
 text_at b at place.Absent h = none_left
 text_at b at (place.Present a e) h = text-between b (at + a) (at + e) h and none_left
 
@@ -138,7 +138,7 @@ pub record Texts (g : Gathered) : Type 0 where
   pub prunes : Each PlainPrune g.control.prune
 
 -- the same in what is gathered of a row that has no text
-texts_kind : (k : Kind) (b : List ℕ) (r : Record) (g : Gathered) → text_fine b (text_in k r) ≡ Fine → SmallNumber r → Texts g
+texts_kind : (k : Kind) (b : List ℕ) (r : Record) (g : Gathered) → text_fine b (text_in k r) ≡ Ok tt → SmallNumber r → Texts g
     → Texts (gather_kind k b r g)
 texts_kind (kind.Rpc d) b r g h n o = o
 texts_kind kind.SubOpts b r g h n o =
@@ -199,7 +199,7 @@ texts_kind kind.ControlIDontWant b r g h n o =
       prunes = o.prunes;
     }
 
-texts-rows : (b : List ℕ) (rs : List Record) → texts_fine b rs ≡ Fine → Each SmallNumber rs → Texts (gather b rs nothing)
+texts-rows : (b : List ℕ) (rs : List Record) → texts_fine b rs ≡ Ok tt → Each SmallNumber rs → Texts (gather b rs nothing)
 unfolding text_of
 texts-rows b [] h n =
     record { topics = none_left; subscriptions = none_left; publish = none_left; grafts = none_left; prunes = none_left }
@@ -218,7 +218,7 @@ plain-control [] [] p q = none_left
 plain-control [] (x ∷ ps) p q = record { grafts = p; prunes = q } and none_left
 plain-control (g ∷ gs) ps p q = record { grafts = p; prunes = q } and none_left
 
-pub said_plain : (t b : List ℕ) → Words t → texts_fine b (lent_rows t) ≡ Fine → Plain (said b (lent_rows t))
+pub said_plain : (t b : List ℕ) → Words t → texts_fine b (lent_rows t) ≡ Ok tt → Plain (said b (lent_rows t))
 unfolding said subscriptions_in messages_in grafts_in prunes_in
 said_plain t b w h =
     let o = texts-rows b (lent_rows t) h (small-numbers t w 0 (length t / 20 - 0)) in

@@ -4,18 +4,17 @@ use mathlib.Core.Path.{◌≡◌, sym, ap, ◌∙◌}
 use mathlib.Core.List.{List}
 use native.Mathlib.Omega.{arith}
 use lib.ListN.{length, drop, length-append, length-take, length-drop}
+use Rattle.std.specs.Prelude.{Result, Ok, Err}
 use Rattle.basis.specs.declared.Mode.{Mode}
 use Rattle.basis.specs.declared.Dialect.{Dialect}
 use Rattle.basis.specs.Writing.{answer, written}
 use Rattle.basis.specs.Unique.{Leaves}
 use Rattle.protobuf.specs.declared.Refusal.{Refusal as Placed}
-use Rattle.protobuf.specs.declared.Checked.TheVariants.{Fine, Refused as Wrong}
 use Rattle.protobuf.specs.Walk.{between}
 use Rattle.schema.specs.declared.Kind.TheVariants as kind
+use Rattle.ids.specs.declared.MessageError.TheVariants as mess
+use Rattle.ids.specs.declared.MessageError.{MessageError}
 use Rattle.rpc.specs.Encode.{sign_prefix}
-use Rattle.ids.specs.declared.MessageAt.TheVariants.{At, Count}
-use Rattle.ids.specs.declared.MessageBytes.{MessageBytes}
-use Rattle.ids.specs.declared.MessageBytes.TheVariants.{Refused, NoMessage}
 use Rattle.schema.specs.Accept.{accept_of}
 use Rattle.ids.specs.Ids.{message_at, of_written}
 use Rattle.canon.specs.Canon.{canon, sign_of}
@@ -34,11 +33,11 @@ pub part_small : (s : List ℕ) (a e : ℕ) → length s ≤ 65536 → length (b
 part_small s a e h = rw (length-take (e - a) (drop a s), length-drop a s) (omega arith)
 
 -- ---- which case it is
-pub sign_refused : (d : Dialect) (s : List ℕ) (i : ℕ) (out : List ℕ) (why : Placed) → accept_of d s ≡ Wrong why → Leaves (sign_answer d s i out) (sign_left d s i out) (Refused why) out
+pub sign_refused : (d : Dialect) (s : List ℕ) (i : ℕ) (out : List ℕ) (why : Placed) → accept_of d s ≡ Err why → Leaves (sign_answer d s i out) (sign_left d s i out) (Err (mess.Refused why)) out
 unfolding sign_answer sign_left
 sign_refused d s i out why e = record { answer = ap (sign_checked d.mode s i out) (sym e); lent = ap (signed_checked d.mode s i out) (sym e) }
 
-pub sign_missing : (d : Dialect) (s : List ℕ) (i : ℕ) (out : List ℕ) (n : ℕ) → accept_of d s ≡ Fine → message_at d.mode s i ≡ Count n → Leaves (sign_answer d s i out) (sign_left d s i out) (NoMessage n) out
+pub sign_missing : (d : Dialect) (s : List ℕ) (i : ℕ) (out : List ℕ) (n : ℕ) → accept_of d s ≡ Ok tt → message_at d.mode s i ≡ Err n → Leaves (sign_answer d s i out) (sign_left d s i out) (Err (mess.NoMessage n)) out
 unfolding sign_answer sign_left
 sign_missing d s i out n e f =
     record {
@@ -46,8 +45,8 @@ sign_missing d s i out n e f =
       lent = ap (signed_at d.mode s out) (sym f) ∙ ap (signed_checked d.mode s i out) (sym e);
     }
 
-pub sign_found : (d : Dialect) (s : List ℕ) (i : ℕ) (out : List ℕ) (a e : ℕ) (r : MessageBytes) (left : List ℕ) → accept_of d s ≡ Fine →
-    message_at d.mode s i ≡ At a e → (r ≡ of_written (answer (sign_of d.mode (between s a e)) out)) ×
+pub sign_found : (d : Dialect) (s : List ℕ) (i : ℕ) (out : List ℕ) (a e : ℕ) (r : Result ℕ MessageError) (left : List ℕ) → accept_of d s ≡ Ok tt →
+    message_at d.mode s i ≡ Ok (a, e) → (r ≡ of_written (answer (sign_of d.mode (between s a e)) out)) ×
     (left ≡ written (sign_of d.mode (between s a e)) out) → Leaves (sign_answer d s i out) (sign_left d s i out) r left
 unfolding sign_answer sign_left
 sign_found d s i out a e r left x f h =

@@ -21,9 +21,9 @@ ghost use Rattle.encode.specs.Sign.{sign_answer, sign_left};
 ghost use Rattle.encode.specs.Puts.{Puts, Fits, head_at};
 
 use basis::{Dialect, Edition, Mode};
-use ids::{MessageAt, MessageBytes, message_at};
+use ids::{MessageError, message_at};
 use peer_id::{put_uvarint, uvarint_len};
-use protobuf::{Checked, Encoded, Field, MAX_FIELD_NUMBER, Step, WIRE_LEN, put_bytes, read_field};
+use protobuf::{EncodeError, Field, MAX_FIELD_NUMBER, WIRE_LEN, put_bytes, read_field};
 use schema::{
     Figure, Held, Kind, Number, Place, Role, Slots, accept, has_field, held_of, row_of, rows,
     slots_of,
@@ -33,27 +33,17 @@ use schema::{
 const MAX_PLACE: usize = 4611686018427387904;
 
 // The place in a slot.
+#[tactic(auto, unfolding(canon::specs::Canon::slot_in))]
 fn slot_in(slot: u8, slots: Slots) -> Place
     ensures { result ≡ slot_in slot slots }
 {
-    let first = slots.first;
-    let second = slots.second;
-    let third = slots.third;
-    let fourth = slots.fourth;
-    let fifth = slots.fifth;
-    if slot == 1 {
-        return first;
+    match slot {
+        1 => slots.first,
+        2 => slots.second,
+        3 => slots.third,
+        4 => slots.fourth,
+        _ => slots.fifth,
     }
-    if slot == 2 {
-        return second;
-    }
-    if slot == 3 {
-        return third;
-    }
-    if slot == 4 {
-        return fourth;
-    }
-    fifth
 }
 
 // The number that is written for a value: of a flag only whether it is zero.
@@ -62,12 +52,7 @@ fn figure(figure: Figure, value: u64) -> u64
 {
     match figure {
         Figure::Exact => value,
-        Figure::Flag => {
-            if value == 0 {
-                return 0;
-            }
-            1
-        }
+        Figure::Flag => (value != 0) as u64,
     }
 }
 
@@ -103,10 +88,7 @@ fn emit_head(n: u64, len: usize, out: &mut [u8], at: usize) -> usize
 pub fn put_head(n: u64, len: usize, out: &mut [u8], at: usize) -> usize
     ensures { Leaves (at + length (head_at n len at)) (set_in (length (head_at n len at)) at (head_at n len at) out.old) result out.new }
 {
-    if MAX_FIELD_NUMBER < n {
-        return at;
-    }
-    if MAX_PLACE < at {
+    if MAX_FIELD_NUMBER < n || MAX_PLACE < at {
         return at;
     }
     let tag = n * 8 + 2;
@@ -128,9 +110,8 @@ fn emit_number(how: Figure, n: u64, number: Number, out: &mut [u8], at: usize) -
     match number {
         Number::Absent => at,
         Number::Present(v) => {
-            let value = figure(how, v);
             let i = emit_varint(n * 8, out, at);
-            emit_varint(value, out, i)
+            emit_varint(figure(how, v), out, i)
         }
     }
 }
@@ -154,8 +135,7 @@ fn emit_slot(input: &[u8], slots: Slots, n: u64, slot: u8, out: &mut [u8], at: u
     requires { (n ≤ 6) × SlotsInside input.now slots × Fits at (placed n input.now (slot_in slot slots)) }
     ensures { Puts out.old at (placed n input.now (slot_in slot slots)) out.new result }
 {
-    let place = slot_in(slot, slots);
-    emit_place(n, input, place, out, at)
+    emit_place(n, input, slot_in(slot, slots), out, at)
 }
 
 // The singular field n, by its role.
@@ -164,18 +144,17 @@ fn emit_own(input: &[u8], slots: Slots, n: u64, role: Role, out: &mut [u8], at: 
     ensures { Puts out.old at (own_part slots n input.now role) out.new result }
 {
     match role {
-        Role::Skip => at,
-        Role::Number(how) => {
-            let number = slots.number;
-            emit_number(how, n, number, out, at)
-        }
-        Role::Text(slot) => emit_slot(input, slots, n, slot, out, at),
-        Role::Bytes(slot) => emit_slot(input, slots, n, slot, out, at),
-        Role::Unsigned(_) => at,
-        Role::Topic => at,
-        Role::MessageId => at,
-        Role::Sub(_, _) => at,
+        Role::Number(how) => emit_number(how, n, slots.number, out, at),
+        Role::Text(slot) | Role::Bytes(slot) => emit_slot(input, slots, n, slot, out, at),
+        Role::Skip | Role::Unsigned(_) | Role::Topic | Role::MessageId | Role::Sub(_, _) => at,
     }
+}
+
+// Whether a field is length-delimited and has the number n.
+fn is_bytes(f: Field, n: u64) -> bool
+    ensures { result ≡ is_bytes n f }
+{
+    f.wire_type == WIRE_LEN && f.field == n
 }
 
 // A field as it stands, where it is length-delimited and has the number n.
@@ -183,15 +162,12 @@ fn emit_there(input: &[u8], f: Field, n: u64, out: &mut [u8], at: usize) -> usiz
     requires { (n ≤ 6) × FieldWithin input.now f × Fits at (cond (is_bytes n f) (bytes_field n (value_in input.now f)) []) }
     ensures { Puts out.old at (cond (is_bytes n f) (bytes_field n (value_in input.now f)) []) out.new result }
 {
-    let start = f.start;
-    let next = f.next;
-    if f.wire_type == WIRE_LEN {
-        if f.field == n {
-            let i = emit_head(n, next - start, out, at);
-            return emit_bytes(&input[start..next], out, i);
-        }
+    if !is_bytes(f, n) {
+        return at;
     }
-    at
+    let value = &input[f.start..f.next];
+    let i = emit_head(n, value.len(), out, at);
+    emit_bytes(value, out, i)
 }
 
 // Each length-delimited field n as it stands.
@@ -201,20 +177,9 @@ fn emit_whole(input: &[u8], n: u64, out: &mut [u8], at: usize) -> usize
 {
     let mut i: usize = 0;
     let mut end = at;
-    while i < input.len() {
-        let step = read_field(Mode::Groups, input, i);
-        match step {
-            Step::End => {
-                return end;
-            }
-            Step::Refused(_) => {
-                return end;
-            }
-            Step::At(f) => {
-                end = emit_there(input, f, n, out, end);
-                i = f.next;
-            }
-        }
+    while let Ok(Some(f)) = read_field(Mode::Groups, input, i) {
+        end = emit_there(input, f, n, out, end);
+        i = f.next;
     }
     end
 }
@@ -226,10 +191,9 @@ fn emit_held(input: &[u8], n: u64, held: Held, out: &mut [u8], at: usize) -> usi
     ensures { Puts out.old at (held_part Mode.Groups (canon Mode.Groups) n input.now held) out.new result }
 {
     match held {
-        Held::Nothing => at,
+        Held::Nothing | Held::Merged(_) => at,
         Held::Whole => emit_whole(input, n, out, at),
         Held::Anew(kind) => emit_anew(input, n, kind, out, at),
-        Held::Merged(_) => at,
     }
 }
 
@@ -241,20 +205,9 @@ fn emit_anew(input: &[u8], n: u64, kind: Kind, out: &mut [u8], at: usize) -> usi
 {
     let mut i: usize = 0;
     let mut end = at;
-    while i < input.len() {
-        let step = read_field(Mode::Groups, input, i);
-        match step {
-            Step::End => {
-                return end;
-            }
-            Step::Refused(_) => {
-                return end;
-            }
-            Step::At(f) => {
-                end = emit_sub(input, f, n, kind, out, end);
-                i = f.next;
-            }
-        }
+    while let Ok(Some(f)) = read_field(Mode::Groups, input, i) {
+        end = emit_sub(input, f, n, kind, out, end);
+        i = f.next;
     }
     end
 }
@@ -265,20 +218,16 @@ fn emit_sub(input: &[u8], f: Field, n: u64, kind: Kind, out: &mut [u8], at: usiz
     requires { (n ≤ 6) × FieldWithin input.now f × Fits at (cond (is_bytes n f) (bytes_field n (canon Mode.Groups kind (value_in input.now f))) []) }
     ensures { Puts out.old at (cond (is_bytes n f) (bytes_field n (canon Mode.Groups kind (value_in input.now f))) []) out.new result }
 {
-    let start = f.start;
-    let next = f.next;
-    if f.wire_type == WIRE_LEN {
-        if f.field == n {
-            let mut none = [0u8; 1];
-            let len = emit_message(&input[start..next], kind, &mut none, 0);
-            let i = emit_head(n, len, out, at);
-            if out.len() < i + len {
-                return i + len;
-            }
-            return emit_message(&input[start..next], kind, out, i);
-        }
+    if !is_bytes(f, n) {
+        return at;
     }
-    at
+    let value = &input[f.start..f.next];
+    let len = emit_message(value, kind, &mut [], 0);
+    let i = emit_head(n, len, out, at);
+    if out.len() < i + len {
+        return i + len;
+    }
+    emit_message(value, kind, out, i)
 }
 
 // A message: its fields in the order of their numbers.
@@ -288,19 +237,14 @@ fn emit_message(part: &[u8], kind: Kind, out: &mut [u8], at: usize) -> usize
     ensures { Puts out.old at (canon Mode.Groups kind part.now) out.new result }
 {
     let slots = slots_of(Mode::Groups, part, kind);
-    let last = rows(kind);
-    let mut n: u64 = 1;
     let mut end = at;
-    while n <= last {
+    for n in 1..=rows(kind) {
         let role = row_of(kind, n);
-        let i = emit_own(part, slots, n, role, out, end);
+        end = emit_own(part, slots, n, role, out, end);
         let held = held_of(role);
-        if let Held::Nothing = held {
-            end = i;
-        } else {
-            end = emit_held(part, n, held, out, i);
+        if !matches!(held, Held::Nothing) {
+            end = emit_held(part, n, held, out, end);
         }
-        n += 1;
     }
     end
 }
@@ -310,15 +254,11 @@ fn emit_entry(body: &[u8], f: Field, kind: Kind, n: u64, m: u64, out: &mut [u8],
     requires { (m ≤ 6) × FieldWithin body.now f × Fits at (cond (is_bytes n f) (held_part Mode.Groups (canon Mode.Groups) m (value_in body.now f) (held_of (row_of kind m))) []) }
     ensures { Puts out.old at (cond (is_bytes n f) (held_part Mode.Groups (canon Mode.Groups) m (value_in body.now f) (held_of (row_of kind m))) []) out.new result }
 {
-    let start = f.start;
-    let next = f.next;
-    if f.wire_type == WIRE_LEN {
-        if f.field == n {
-            let held = held_of(row_of(kind, m));
-            return emit_held(&body[start..next], m, held, out, at);
-        }
+    if !is_bytes(f, n) {
+        return at;
     }
-    at
+    let held = held_of(row_of(kind, m));
+    emit_held(&body[f.start..f.next], m, held, out, at)
 }
 
 // The entries m of each submessage n, one submessage after the other.
@@ -328,20 +268,9 @@ fn emit_entries(body: &[u8], kind: Kind, n: u64, m: u64, out: &mut [u8], at: usi
 {
     let mut i: usize = 0;
     let mut end = at;
-    while i < body.len() {
-        let step = read_field(Mode::Groups, body, i);
-        match step {
-            Step::End => {
-                return end;
-            }
-            Step::Refused(_) => {
-                return end;
-            }
-            Step::At(f) => {
-                end = emit_entry(body, f, kind, n, m, out, end);
-                i = f.next;
-            }
-        }
+    while let Ok(Some(f)) = read_field(Mode::Groups, body, i) {
+        end = emit_entry(body, f, kind, n, m, out, end);
+        i = f.next;
     }
     end
 }
@@ -351,12 +280,9 @@ fn emit_merged(body: &[u8], kind: Kind, n: u64, out: &mut [u8], at: usize) -> us
     requires { Fits at (merged_of Mode.Groups kind n body.now) }
     ensures { Puts out.old at (merged_of Mode.Groups kind n body.now) out.new result }
 {
-    let last = rows(kind);
-    let mut m: u64 = 1;
     let mut end = at;
-    while m <= last {
+    for m in 1..=rows(kind) {
         end = emit_entries(body, kind, n, m, out, end);
-        m += 1;
     }
     end
 }
@@ -366,17 +292,15 @@ fn emit_control(body: &[u8], kind: Kind, n: u64, out: &mut [u8], at: usize) -> u
     requires { (n ≤ 6) × Fits at (cond (has_field Mode.Groups n body.now) (bytes_field n (merged_of Mode.Groups kind n body.now)) []) }
     ensures { Puts out.old at (cond (has_field Mode.Groups n body.now) (bytes_field n (merged_of Mode.Groups kind n body.now)) []) out.new result }
 {
-    let there = has_field(Mode::Groups, body, n);
-    if there {
-        let mut none = [0u8; 1];
-        let len = emit_merged(body, kind, n, &mut none, 0);
-        let i = emit_head(n, len, out, at);
-        if out.len() < i + len {
-            return i + len;
-        }
-        return emit_merged(body, kind, n, out, i);
+    if !has_field(Mode::Groups, body, n) {
+        return at;
     }
-    at
+    let len = emit_merged(body, kind, n, &mut [], 0);
+    let i = emit_head(n, len, out, at);
+    if out.len() < i + len {
+        return i + len;
+    }
+    emit_merged(body, kind, n, out, i)
 }
 
 // The field n of a body, by how it is written.
@@ -386,8 +310,7 @@ fn emit_top(body: &[u8], n: u64, held: Held, out: &mut [u8], at: usize) -> usize
 {
     match held {
         Held::Nothing => at,
-        Held::Whole => emit_held(body, n, held, out, at),
-        Held::Anew(_) => emit_held(body, n, held, out, at),
+        Held::Whole | Held::Anew(_) => emit_held(body, n, held, out, at),
         Held::Merged(kind) => emit_control(body, kind, n, out, at),
     }
 }
@@ -397,47 +320,36 @@ fn emit_body(edition: Edition, body: &[u8], out: &mut [u8]) -> usize
     requires { Fits 0 (canon_body (spoken Mode.Groups edition) body.now) }
     ensures { Puts out.old 0 (canon_body (spoken Mode.Groups edition) body.now) out.new result }
 {
-    let last = rows(Kind::Rpc(edition));
-    let mut n: u64 = 1;
+    let kind = Kind::Rpc(edition);
     let mut end: usize = 0;
-    while n <= last {
-        let held = held_of(row_of(Kind::Rpc(edition), n));
-        end = emit_top(body, n, held, out, end);
-        n += 1;
+    for n in 1..=rows(kind) {
+        end = emit_top(body, n, held_of(row_of(kind, n)), out, end);
     }
     end
 }
 
 // Writes a body that is taken. Its canonical bytes are never longer than it, so they are measured only where there may be no room for them.
-fn encode_taken(edition: Edition, body: &[u8], out: &mut [u8]) -> Encoded
+fn encode_taken(edition: Edition, body: &[u8], out: &mut [u8]) -> Result<usize, EncodeError>
     requires { (length (canon_body (spoken Mode.Groups edition) body.now) ≤ length body.now) × (length body.now ≤ 65536) }
     ensures value { result ≡ encoded (answer (canon_body (spoken Mode.Groups edition) body.now) out.old) }
     ensures out_after { out.new ≡ written (canon_body (spoken Mode.Groups edition) body.now) out.old }
 {
     if out.len() < body.len() {
-        let mut none = [0u8; 1];
-        let needed = emit_body(edition, body, &mut none);
+        let needed = emit_body(edition, body, &mut []);
         if out.len() < needed {
-            return Encoded::Room(needed);
+            return Err(EncodeError::Room(needed));
         }
-        emit_body(edition, body, out);
-        return Encoded::Bytes(needed);
     }
-    let end = emit_body(edition, body, out);
-    Encoded::Bytes(end)
+    Ok(emit_body(edition, body, out))
 }
 
 // Writes a body anew at the front of the lent bytes: what it means, in its canonical bytes. A refusal, and a lack of room, leave them as they were.
-pub fn encode(dialect: Dialect, body: &[u8], out: &mut [u8]) -> Encoded
+pub fn encode(dialect: Dialect, body: &[u8], out: &mut [u8]) -> Result<usize, EncodeError>
     ensures { Leaves (encode_answer dialect body.now out.old)
         (encode_left dialect body.now out.old) result out.new }
 {
-    let edition = dialect.edition;
-    let c = accept(dialect, body);
-    match c {
-        Checked::Refused(why) => Encoded::Refused(why),
-        Checked::Fine => encode_taken(edition, body, out),
-    }
+    accept(dialect, body)?;
+    encode_taken(dialect.edition, body, out)
 }
 
 // The bytes of a message that are signed: the prefix, and the message's canonical bytes.
@@ -451,39 +363,32 @@ fn emit_signed(part: &[u8], out: &mut [u8]) -> usize
 
 // Writes the bytes of a message that are signed at the front of out. They are at most 14 more than the message, and measured only where there
 // may be no room for them.
-fn sign_part(part: &[u8], out: &mut [u8]) -> MessageBytes
+fn sign_part(part: &[u8], out: &mut [u8]) -> Result<usize, MessageError>
     requires { (length (canon Mode.Groups Kind.RawMessage part.now) ≤ length part.now) × (length part.now ≤ 65536) }
     ensures value { result ≡ of_written (answer (sign_of Mode.Groups part.now) out.old) }
     ensures out_after { out.new ≡ written (sign_of Mode.Groups part.now) out.old }
 {
     if out.len() < part.len() + 14 {
-        let mut none = [0u8; 1];
-        let needed = emit_signed(part, &mut none);
+        let needed = emit_signed(part, &mut []);
         if out.len() < needed {
-            return MessageBytes::Room(needed);
+            return Err(MessageError::Room(needed));
         }
-        emit_signed(part, out);
-        return MessageBytes::Bytes(needed);
     }
-    let end = emit_signed(part, out);
-    MessageBytes::Bytes(end)
+    Ok(emit_signed(part, out))
 }
 
 // Writes the bytes that are signed of the message at an index: the prefix, then from, data, seqno and every topic.
-pub fn sign_bytes(dialect: Dialect, body: &[u8], index: usize, out: &mut [u8]) -> MessageBytes
+pub fn sign_bytes(
+    dialect: Dialect,
+    body: &[u8],
+    index: usize,
+    out: &mut [u8],
+) -> Result<usize, MessageError>
     ensures { Leaves (sign_answer dialect body.now index out.old)
         (sign_left dialect body.now index out.old) result out.new }
 {
     let mode = dialect.mode;
-    let c = accept(dialect, body);
-    match c {
-        Checked::Refused(why) => MessageBytes::Refused(why),
-        Checked::Fine => {
-            let m = message_at(mode, body, index);
-            match m {
-                MessageAt::Count(n) => MessageBytes::NoMessage(n),
-                MessageAt::At { start, end } => sign_part(&body[start..end], out),
-            }
-        }
-    }
+    accept(dialect, body)?;
+    let (start, end) = message_at(mode, body, index).map_err(MessageError::NoMessage)?;
+    sign_part(&body[start..end], out)
 }

@@ -1,12 +1,13 @@
 -- No answer depends on where the arrival number stands, also none of a later call.
-use Rattle.std.specs.Prelude.{ℕ, ◌≡◌}
+use Rattle.std.specs.Prelude.{Result, ℕ, ◌≡◌}
 use Rattle.std.proofs.Math.Path.{refl, ap, ap₂}
 use Rattle.std.proofs.Common.{◌∙◌}
 use mathlib.Core.List.{List, [], ◌∷◌}
 use Rattle.node.specs.declared.Node.{Node}
-use Rattle.node.specs.declared.Advertise.{Advertise}
-use Rattle.node.specs.declared.Ask.{Ask}
-use Rattle.node.specs.declared.Serve.{Serve}
+use Rattle.node.specs.declared.AdvertiseError.{AdvertiseError}
+use Rattle.node.specs.declared.AskError.{AskError}
+use Rattle.node.specs.declared.Reply.{Reply}
+use Rattle.node.specs.declared.ServeError.{ServeError}
 use Rattle.node.specs.WellFormed.{Typed}
 use Rattle.node.specs.WrapLaws.{admit-moved, admit-typed, beat-moved, beaten-typed, advertise-moved}
 use Rattle.node.specs.WrapLaws.{ask-moved, serve-moved, explain-moved}
@@ -30,13 +31,13 @@ module _ (k : ℕ) (s : State) (typed : Typed s.node) where
   answer-free (heartbeat at) = ap beaten (beat-moved k s.node s.ids s.messages typed at).0
   answer-free (advertise topic windows out) =
       let m = advertise-moved k s.node s.ids s.messages typed topic windows out in
-      ap₂ (λ (x : Advertise) (l : List ℕ). advertised x l) m.0 m.1
+      ap₂ (λ (x : Result ℕ AdvertiseError) (l : List ℕ). advertised x l) m.0 m.1
   answer-free (ask ed body out) =
       let m = ask-moved k s.node s.ids s.messages typed ed body out in
-      ap₂ (λ (x : Ask) (l : List ℕ). asked x l) m.0 m.1
+      ap₂ (λ (x : Result ℕ AskError) (l : List ℕ). asked x l) m.0 m.1
   answer-free (serve ed body second out) =
       let m = serve-moved k s.node s.ids s.messages typed ed body second out in
-      ap₂ (λ (x : Serve) (l : List ℕ). served x l) m.0 m.1
+      ap₂ (λ (x : Result Reply ServeError) (l : List ℕ). served x l) m.0 m.1
   answer-free (explain id topic windows) =
       ap explained (explain-moved k s.node s.ids s.messages typed id topic windows)
 

@@ -1,34 +1,28 @@
 -- Laws about histories that rest on no set of messages: calls and then more calls; what one call leaves; and every
 -- state that calls leave from a fresh one is well formed.
-use Rattle.std.specs.Prelude.{ℕ, zero, suc, ◌+◌, ◌≤◌, ◌≡◌, Bool, false, List, [], ◌∷◌, ◌++◌, ◌↔◌}
+use Rattle.std.specs.Prelude.{Option, Some, None, Result, Ok, Err, ℕ, zero, suc, ◌+◌, ◌≤◌, ◌≡◌, Bool, false, List, []}
+use Rattle.std.specs.Prelude.{◌∷◌, ◌++◌, ◌↔◌}
 use Rattle.std.proofs.Math.Path.{refl}
 use Rattle.std.proofs.Common.{sym, ap, subst, ◌∙◌, append_assoc, arith}
 use Rattle.std.proofs.Math.Bool.{true}
-use Rattle.std.proofs.Math.Option.{Option, none, some}
 use Rattle.basis.specs.declared.Edition.{Edition}
+use Rattle.basis.specs.declared.Fault.{Fault}
 use Rattle.basis.specs.Dialect.{mode_of, spoken}
 use Rattle.basis.specs.Cases.{either, clash}
 use Rattle.rows.specs.IdsLaws.{same_self, same_equal}
-use Rattle.protobuf.specs.declared.Checked.{Checked}
-use Rattle.protobuf.specs.declared.Checked.TheVariants as checked
+use Rattle.protobuf.specs.declared.Refusal.{Refusal}
 use Rattle.protobuf.specs.Walk.{between}
 use Rattle.schema.specs.Accept.{accept_of}
-use Rattle.ids.specs.declared.MessageAt.{MessageAt}
-use Rattle.ids.specs.declared.MessageAt.TheVariants.{At, Count}
 use Rattle.ids.specs.Ids.{message_at}
-use Rattle.admission.specs.declared.Admission.{Admission}
-use Rattle.admission.specs.declared.Admission.TheVariants as admission
+use Rattle.admission.specs.declared.Unfit.{Unfit}
 use Rattle.admission.specs.Admission.{admission_of, vouched, gives_id}
 use Rattle.admission.specs.AdmissionLaws.{fit-vouched, vouched-same}
 use Rattle.mcache.specs.Laws.{under-settings, shifted-settings}
-use Rattle.node.specs.declared.Lent.{Lent}
-use Rattle.node.specs.declared.Lent.TheVariants as lent
-use Rattle.node.specs.declared.Fault.{Fault}
 use Rattle.node.specs.declared.Node.{Node}
-use Rattle.node.specs.declared.Admit.{Admit}
-use Rattle.node.specs.declared.Admit.TheVariants as answer
-use Rattle.node.specs.declared.Beat.{Beat}
-use Rattle.node.specs.declared.Beat.TheVariants as beaten
+use Rattle.node.specs.declared.AdmitError.TheVariants as admit-error
+use Rattle.node.specs.declared.AdmitError.{AdmitError}
+use Rattle.node.specs.declared.BeatError.{BeatError}
+use Rattle.node.specs.declared.Novelty.{Novelty}
 use Rattle.node.specs.Gateway.{Gateway, started, form_of, after_admit, after_beat}
 use Rattle.node.specs.State.{gateway_in}
 use Rattle.node.specs.Calls.{Plan, no, taken, held_at, admit_number, admit_answer, admit_node, admit_seen, admit_cache}
@@ -68,7 +62,7 @@ unfolding after_all
 done-append all_done n = n
 done-append (done a m) n = done a (done-append m n)
 
-pub times-append : (f : Admit → ℕ) (flags : ℕ) (m : List ℕ) (cs ds : List Call) (s : State)
+pub times-append : (f : Result Novelty AdmitError → ℕ) (flags : ℕ) (m : List ℕ) (cs ds : List Call) (s : State)
     → times f flags m (cs ++ ds) s ≡ times f flags m cs s + times f flags m ds (after_all cs s)
 unfolding times after_all
 times-append f flags m [] ds s = omega arith
@@ -141,7 +135,8 @@ fresh-flags {x} {s} f = ap (λ (g : Gateway). g.flags) (fresh-starts f) ∙ star
 -- ---- an admit
 module _ (s : State) (ed : Edition) (body : List ℕ) (i : ℕ) (word : Bool) (at : ℕ) where
   -- that takes nothing
-  pub admit-none : (r : Admit) → plan_in s ed body i word at ≡ no r → after (admit ed body i word at) s ≡ s
+  pub admit-none : (r : Result Novelty AdmitError) → plan_in s ed body i word at ≡ no r
+      → after (admit ed body i word at) s ≡ s
   unfolding after
   admit-none r e = rw e
 
@@ -182,12 +177,11 @@ plan_stays s at (taken m id) h =
     absurd (h (either (held_at s.node s.ids at (form_of (mode_of s.node.cache.flags) m id)) (λ t. simp t)
     (λ t. simp t)))
 
-beat-stays : (s : State) (at : ℕ) (r : Beat) → beat_answer s.node s.ids s.messages at ≡ r
+beat-stays : (s : State) (at : ℕ) (r : Result (Unit {0}) BeatError) → beat_answer s.node s.ids s.messages at ≡ r
     → (beat_number r ≡ 0 → ⊥) → beat_node s.node s.ids s.messages at ≡ s.node
 unfolding beat_node
-beat-stays s at beaten.Done e h = absurd (h refl)
-beat-stays s at (beaten.Faulty why) e h = rw e
-beat-stays s at (beaten.ClockBack clock) e h = rw e
+beat-stays s at (Ok tt) e h = absurd (h refl)
+beat-stays s at (Err why) e h = rw e
 
 pub refused-stays : (c : Call) (s : State) → (refusal_at s c ≡ 0 → ⊥) → after c s ≡ s
 unfolding after
@@ -208,12 +202,11 @@ plan_flags n ss at (taken m id) =
     either (held_at n ss at (form_of (mode_of n.cache.flags) m id)) (λ t. rw t)
     (λ t. rw t (under-settings m id n.cache).2)
 
-beat-flags : (n : Node) (ss cs : List ℕ) (at : ℕ) (r : Beat) → beat_answer n ss cs at ≡ r
+beat-flags : (n : Node) (ss cs : List ℕ) (at : ℕ) (r : Result (Unit {0}) BeatError) → beat_answer n ss cs at ≡ r
     → (beat_node n ss cs at).cache.flags ≡ n.cache.flags
 unfolding beat_node later_node
-beat-flags n ss cs at beaten.Done e = rw e (shifted-settings n.cache).2
-beat-flags n ss cs at (beaten.Faulty why) e = rw e
-beat-flags n ss cs at (beaten.ClockBack clock) e = rw e
+beat-flags n ss cs at (Ok tt) e = rw e (shifted-settings n.cache).2
+beat-flags n ss cs at (Err why) e = rw e
 
 pub after-flags : (c : Call) (s : State) → (gateway_of (after c s)).flags ≡ (gateway_of s).flags
 unfolding after gateway_in
@@ -241,12 +234,11 @@ plan_lasting n ss at (no r) = (refl, refl)
 plan_lasting n ss at (taken m id) =
     either (held_at n ss at (form_of (mode_of n.cache.flags) m id)) (λ t. rw t (refl, refl)) (λ t. rw t (refl, refl))
 
-beat-lasting : (n : Node) (ss cs : List ℕ) (at : ℕ) (r : Beat) → beat_answer n ss cs at ≡ r
+beat-lasting : (n : Node) (ss cs : List ℕ) (at : ℕ) (r : Result (Unit {0}) BeatError) → beat_answer n ss cs at ≡ r
     → Lasting (beat_node n ss cs at) n
 unfolding beat_node later_node
-beat-lasting n ss cs at beaten.Done e = rw e (refl, refl)
-beat-lasting n ss cs at (beaten.Faulty why) e = rw e (refl, refl)
-beat-lasting n ss cs at (beaten.ClockBack clock) e = rw e (refl, refl)
+beat-lasting n ss cs at (Ok tt) e = rw e (refl, refl)
+beat-lasting n ss cs at (Err why) e = rw e (refl, refl)
 
 after-lasting : (c : Call) (s : State) → Lasting (after c s).node s.node
 unfolding after
@@ -278,54 +270,54 @@ history_set {x} {s} calls f = all_set calls s (subst (Set x) (sym (fresh-starts 
 -- an admit brings m exactly where m is vouched for, the body is accepted, and m stands at the index
 module _ (flags : ℕ) (ed : Edition) (body : List ℕ) (i : ℕ) (at : ℕ) where
   vouched-brought : (word : Bool) (m : List ℕ) → vouched flags m word ≡ true
-      → accept_of (spoken (mode_of flags) ed) body ≡ checked.Fine → Placed (mode_of flags) body i m
-      → brought flags (admit ed body i word at) ≡ some m
+      → accept_of (spoken (mode_of flags) ed) body ≡ Ok tt → Placed (mode_of flags) body i m
+      → brought flags (admit ed body i word at) ≡ Some m
   unfolding brought
   vouched-brought word m v ok p = rw (ok, p.found, p.bytes, v)
 
   -- so does each with the host's word
-  pub carried-brought : (m : List ℕ) → accept_of (spoken (mode_of flags) ed) body ≡ checked.Fine
+  pub carried-brought : (m : List ℕ) → accept_of (spoken (mode_of flags) ed) body ≡ Ok tt
       → Placed (mode_of flags) body i m
-      → brought flags (admit ed body i true at) ≡ some m
+      → brought flags (admit ed body i true at) ≡ Some m
   unfolding vouched
   carried-brought m ok p = vouched-brought true m refl ok p
 
   module _ (word : Bool) (m : List ℕ) where
-    brought-at : (r : MessageAt) → message_at (mode_of flags) body i ≡ r → standing flags word body r ≡ some m
+    brought-at : (r : Result (ℕ × ℕ) ℕ) → message_at (mode_of flags) body i ≡ r → standing flags word body r ≡ Some m
         → (vouched flags m word ≡ true) × Placed (mode_of flags) body i m
-    brought-at (At a e) q h =
+    brought-at (Ok (a, e)) q h =
         either (vouched flags (between body a e) word)
         (λ t.
-        let b : some (between body a e) ≡ some m = rw t at h in
+        let b : Some (between body a e) ≡ Some m = rw t at h in
         let c : between body a e ≡ m = cc in
         (rw (← c) t, record { start = a; next = e; found = q; bytes = c }))
         (λ t. clash (let b = rw t at h in cc))
-    brought-at (Count n) q h = clash (cc)
+    brought-at (Err n) q h = clash (cc)
 
-    brought-accepted : (r : Checked) → accept_of (spoken (mode_of flags) ed) body ≡ r
-        → where_accepted r (standing flags word body (message_at (mode_of flags) body i)) ≡ some m
-        → (vouched flags m word ≡ true) × (accept_of (spoken (mode_of flags) ed) body ≡ checked.Fine)
+    brought-accepted : (r : Result (Unit {0}) Refusal) → accept_of (spoken (mode_of flags) ed) body ≡ r
+        → where_accepted r (standing flags word body (message_at (mode_of flags) body i)) ≡ Some m
+        → (vouched flags m word ≡ true) × (accept_of (spoken (mode_of flags) ed) body ≡ Ok tt)
         × Placed (mode_of flags) body i m
-    brought-accepted checked.Fine e h = let p = brought-at (message_at (mode_of flags) body i) refl h in (p.0, e, p.1)
-    brought-accepted (checked.Refused why) e h = clash (cc)
+    brought-accepted (Ok tt) e h = let p = brought-at (message_at (mode_of flags) body i) refl h in (p.0, e, p.1)
+    brought-accepted (Err why) e h = clash (cc)
 
-    pub brought-carried : brought flags (admit ed body i word at) ≡ some m
-        → (vouched flags m word ≡ true) × (accept_of (spoken (mode_of flags) ed) body ≡ checked.Fine)
+    pub brought-carried : brought flags (admit ed body i word at) ≡ Some m
+        → (vouched flags m word ≡ true) × (accept_of (spoken (mode_of flags) ed) body ≡ Ok tt)
         × Placed (mode_of flags) body i m
     unfolding brought
     brought-carried h = brought-accepted (accept_of (spoken (mode_of flags) ed) body) refl h
 
-brings-brought : (m : List ℕ) (o : Option (List ℕ)) → is_that m o ≡ true → o ≡ some m
-brings-brought m none h = clash (cc)
-brings-brought m (some k) h = ap some (same_equal k m h)
+brings-brought : (m : List ℕ) (o : Option (List ℕ)) → is_that m o ≡ true → o ≡ Some m
+brings-brought m None h = clash (cc)
+brings-brought m (Some k) h = ap Some (same_equal k m h)
 
 -- a call brings m exactly where that is what it brings
-pub brings_that : (flags : ℕ) (m : List ℕ) (c : Call) → (brings flags m c ≡ true) ↔ (brought flags c ≡ some m)
+pub brings_that : (flags : ℕ) (m : List ℕ) (c : Call) → (brings flags m c ≡ true) ↔ (brought flags c ≡ Some m)
 brings_that flags m c = (brings-brought m (brought flags c), λ e. rw e (same_self m))
 
 pub brings-exactly : (flags : ℕ) (m : List ℕ) (ed : Edition) (body : List ℕ) (i : ℕ) (word : Bool) (at : ℕ)
     → (brings flags m (admit ed body i word at) ≡ true)
-    ↔ ((vouched flags m word ≡ true) × (accept_of (spoken (mode_of flags) ed) body ≡ checked.Fine)
+    ↔ ((vouched flags m word ≡ true) × (accept_of (spoken (mode_of flags) ed) body ≡ Ok tt)
     × Placed (mode_of flags) body i m)
 brings-exactly flags m ed body i word at = (
   λ h. brought-carried flags ed body i at word m ((brings_that flags m (admit ed body i word at)).0 h),
@@ -344,8 +336,8 @@ module _ (s : State) (flags : ℕ) (same : (gateway_of s).flags ≡ flags) (ed :
   same_mode = ap mode_of here
 
   -- a message that passes admission, where the state is well formed and the clock does not go back
-  pub brought_plan : (m id : List ℕ) → brought flags (admit ed body i word at) ≡ some m → gives_id flags m id ≡ true
-      → lent_of s.node s.ids s.messages ≡ lent.Fine → s.node.clock ≤ at
+  pub brought_plan : (m id : List ℕ) → brought flags (admit ed body i word at) ≡ Some m → gives_id flags m id ≡ true
+      → lent_of s.node s.ids s.messages ≡ Ok tt → s.node.clock ≤ at
       → plan_in s ed body i word at ≡ taken m id
   unfolding planned
   brought_plan m id e own fine h =
@@ -354,34 +346,35 @@ module _ (s : State) (flags : ℕ) (same : (gateway_of s).flags ≡ flags) (ed :
       let v = vouched-same s.node.cache.flags m word (rw here c.0) in
       rw (fine, same_mode, c.1, same_mode, p.found, p.bytes, v) (fit_plan s.node at m id (rw here own) h)
 
-  of-fit : (p : List ℕ) (r : Admission) → admission_of s.node.cache.flags p word ≡ r → vouched flags p word ≡ false
-      → TakesNone (plan_fit s.node at p r)
-  of-fit p (admission.Unfit why) e h = (answer.Unfit why, refl)
-  of-fit p (admission.Fit a b c d) e h =
+  of-fit : (p : List ℕ) (r : Result ((ℕ × ℕ) × (ℕ × ℕ)) Unfit) → admission_of s.node.cache.flags p word ≡ r
+      → vouched flags p word ≡ false → TakesNone (plan_fit s.node at p r)
+  of-fit p (Err why) e h = (Err (admit-error.Unfit why), refl)
+  of-fit p (Ok ((a, b), (c, d))) e h =
       let t = fit-vouched s.node.cache.flags p word a b c d e in clash (let q = rw here at t in cc)
 
-  of_at : (r : MessageAt) → standing flags word body r ≡ none → TakesNone (plan_at s.node at word body r)
-  of_at (At a e) h =
+  of_at : (r : Result (ℕ × ℕ) ℕ) → standing flags word body r ≡ None → TakesNone (plan_at s.node at word body r)
+  of_at (Ok (a, e)) h =
       let p = between body a e in
       either (vouched flags p word) (λ t. clash (let q = rw t at h in cc))
       (λ t. of-fit p (admission_of s.node.cache.flags p word) refl t)
-  of_at (Count n) h = (answer.NoMessage n, refl)
+  of_at (Err n) h = (Err (admit-error.NoMessage n), refl)
 
-  of-body : (r : Checked) → where_accepted r (standing flags word body (message_at (mode_of flags) body i)) ≡ none
+  of-body : (r : Result (Unit {0}) Refusal)
+      → where_accepted r (standing flags word body (message_at (mode_of flags) body i)) ≡ None
       → TakesNone (plan_body s.node at word body i r)
-  of-body checked.Fine h = rw same_mode (of_at (message_at (mode_of flags) body i) h)
-  of-body (checked.Refused why) h = (answer.Refused why, refl)
+  of-body (Ok tt) h = rw same_mode (of_at (message_at (mode_of flags) body i) h)
+  of-body (Err why) h = (Err (admit-error.Refused why), refl)
 
-  of_lent_lem : (l : Lent) → where_accepted (accept_of (spoken (mode_of flags) ed) body)
-      (standing flags word body (message_at (mode_of flags) body i)) ≡ none
+  of_lent_lem : (l : Result (Unit {0}) Fault) → where_accepted (accept_of (spoken (mode_of flags) ed) body)
+      (standing flags word body (message_at (mode_of flags) body i)) ≡ None
       → TakesNone
-      (on_lent (λ (why : Fault). no (answer.Faulty why)) l
+      (on_lent (λ (why : Fault). no (Err (admit-error.Faulty why))) l
       (plan_body s.node at word body i (accept_of (spoken (mode_of flags) ed) body)))
-  of_lent_lem lent.Fine h = of-body (accept_of (spoken (mode_of flags) ed) body) h
-  of_lent_lem (lent.Faulty why) h = (answer.Faulty why, refl)
+  of_lent_lem (Ok tt) h = of-body (accept_of (spoken (mode_of flags) ed) body) h
+  of_lent_lem (Err why) h = (Err (admit-error.Faulty why), refl)
 
   -- where it brings nothing, it takes nothing
-  pub unbrought_plan : brought flags (admit ed body i word at) ≡ none
-      → (r : Admit) × (plan_in s ed body i word at ≡ no r)
+  pub unbrought_plan : brought flags (admit ed body i word at) ≡ None
+      → (r : Result Novelty AdmitError) × (plan_in s ed body i word at ≡ no r)
   unfolding planned brought
   unbrought_plan h = rw same_mode (of_lent_lem (lent_of s.node s.ids s.messages) h)

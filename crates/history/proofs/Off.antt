@@ -1,14 +1,10 @@
 -- Where the flags allow no unsigned message, a call brings what it brought before there were flags, in their mode.
-use Rattle.std.specs.Prelude.{ℕ, ◌≡◌, Bool, cond, List}
+use Rattle.std.specs.Prelude.{Option, None, Result, Ok, Err, ℕ, ◌≡◌, Bool, cond, List}
 use Rattle.std.proofs.Math.Path.{refl}
 use Rattle.std.proofs.Math.Bool.{true, false}
-use Rattle.std.proofs.Math.Option.{Option, none}
 use Rattle.basis.specs.Dialect.{mode_of, spoken}
-use Rattle.protobuf.specs.declared.Checked.{Checked}
-use Rattle.protobuf.specs.declared.Checked.TheVariants as checked
+use Rattle.protobuf.specs.declared.Refusal.{Refusal}
 use Rattle.schema.specs.Accept.{accept_of}
-use Rattle.ids.specs.declared.MessageAt.{MessageAt}
-use Rattle.ids.specs.declared.MessageAt.TheVariants.{At, Count}
 use Rattle.ids.specs.Ids.{message_at}
 use Rattle.admission.specs.Flags.{allows_unsigned}
 use Rattle.admission.specs.Admission.{vouched}
@@ -18,19 +14,19 @@ use Rattle.history.specs.Off.{standing_was, brought_was}
 
 -- ---- with the flag off it is that
 module _ (flags : ℕ) (off : allows_unsigned flags ≡ false) where
-  standing_off : (word : Bool) (body : List ℕ) (r : MessageAt)
-      → standing flags word body r ≡ cond word (standing_was body r) none
+  standing_off : (word : Bool) (body : List ℕ) (r : Result (ℕ × ℕ) ℕ)
+      → standing flags word body r ≡ cond word (standing_was body r) None
   unfolding vouched
-  standing_off true body (At a e) = refl
-  standing_off false body (At a e) = rw off
-  standing_off true body (Count n) = refl
-  standing_off false body (Count n) = refl
+  standing_off true body (Ok (a, e)) = refl
+  standing_off false body (Ok (a, e)) = rw off
+  standing_off true body (Err n) = refl
+  standing_off false body (Err n) = refl
 
-  accepted_off : (word : Bool) (r : Checked) (now was : Option (List ℕ)) → now ≡ cond word was none
-      → where_accepted r now ≡ cond word (where_accepted r was) none
-  accepted_off word checked.Fine now was e = e
-  accepted_off true (checked.Refused why) now was e = refl
-  accepted_off false (checked.Refused why) now was e = refl
+  accepted_off : (word : Bool) (r : Result (Unit {0}) Refusal) (now was : Option (List ℕ)) → now ≡ cond word was None
+      → where_accepted r now ≡ cond word (where_accepted r was) None
+  accepted_off word (Ok tt) now was e = e
+  accepted_off true (Err why) now was e = refl
+  accepted_off false (Err why) now was e = refl
 
   pub brought_off : (c : Call) → brought flags c ≡ brought_was (mode_of flags) c
   unfolding brought brought_was

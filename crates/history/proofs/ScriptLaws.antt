@@ -1,8 +1,7 @@
 -- Calls that are written out: they leave the gateway that is computed, and a message is got and new in them as often
 -- as is computed.
-use Rattle.std.specs.Prelude.{ℕ, ◌+◌, ◌≤◌, ◌≡◌, refl, true, cond, List, [], ◌∷◌}
+use Rattle.std.specs.Prelude.{Some, ℕ, ◌+◌, ◌≤◌, ◌≡◌, refl, true, cond, List, [], ◌∷◌}
 use Rattle.std.proofs.Common.{sym, ap, ap₂, subst, ◌∙◌, arith}
-use Rattle.std.proofs.Math.Option.{some}
 use Rattle.basis.specs.Dialect.{mode_of}
 use Rattle.basis.specs.declared.Edition.{Edition}
 use Rattle.basis.specs.Cases.{either}
@@ -25,7 +24,7 @@ use Rattle.history.specs.ScriptLaws.{Acted}
 -- ---- what follows for a state that calls leave from a fresh one, under its flags
 -- the counts of one admit
 module _ (flags : ℕ) (s : State) (kept : Kept s) (ed : Edition) (body m id : List ℕ) (at : ℕ)
-    (b : brought flags (admit ed body 0 true at) ≡ some m) (e : plan_in s ed body 0 true at ≡ taken m id) (k : List ℕ)
+    (b : brought flags (admit ed body 0 true at) ≡ Some m) (e : plan_in s ed body 0 true at ≡ taken m id) (k : List ℕ)
   where
     admit-got : cond (brings flags k (admit ed body 0 true at)) 1 0 ≡ got_by k (gets ed body m id at)
     admit-got = rw b

@@ -1,25 +1,28 @@
 -- What the calls of a history answer, in their order, each with the buffer as it leaves it.
-use Rattle.std.specs.Prelude.{ℕ, List, [], ◌∷◌}
-use Rattle.node.specs.declared.Admit.{Admit}
-use Rattle.node.specs.declared.Beat.{Beat}
-use Rattle.node.specs.declared.Advertise.{Advertise}
-use Rattle.node.specs.declared.Ask.{Ask}
-use Rattle.node.specs.declared.Serve.{Serve}
-use Rattle.node.specs.declared.Explain.{Explain}
+use Rattle.std.specs.Prelude.{Result, ℕ, List, [], ◌∷◌}
+use Rattle.mcache.specs.declared.Offer.{Offer}
+use Rattle.node.specs.declared.AdmitError.{AdmitError}
+use Rattle.node.specs.declared.AdvertiseError.{AdvertiseError}
+use Rattle.node.specs.declared.AskError.{AskError}
+use Rattle.node.specs.declared.BeatError.{BeatError}
+use Rattle.node.specs.declared.ExplainError.{ExplainError}
+use Rattle.node.specs.declared.Novelty.{Novelty}
+use Rattle.node.specs.declared.Reply.{Reply}
+use Rattle.node.specs.declared.ServeError.{ServeError}
 use Rattle.node.specs.Calls.{admit_answer, beat_answer, advertise_answer, advertise_left, ask_answer, ask_left, serve_answer}
 use Rattle.node.specs.Calls.{serve_left, explain_answer}
 use Rattle.history.specs.History.{State, Call, admit, heartbeat, advertise, ask, serve, explain}
 use Rattle.history.specs.History.{plan_in, after}
 
 pub data Answer : Type 0 where
-  admitted : Admit → Answer
-  beaten : Beat → Answer
+  admitted : Result Novelty AdmitError → Answer
+  beaten : Result (Unit {0}) BeatError → Answer
   -- and the buffer
-  advertised : Advertise → List ℕ → Answer
-  asked : Ask → List ℕ → Answer
-  served : Serve → List ℕ → Answer
+  advertised : Result ℕ AdvertiseError → List ℕ → Answer
+  asked : Result ℕ AskError → List ℕ → Answer
+  served : Result Reply ServeError → List ℕ → Answer
   -- there is none
-  explained : Explain → Answer
+  explained : Result Offer ExplainError → Answer
 
 unfoldable pub answer_at : State → Call → Answer
 answer_at s (admit ed body i word at) = admitted (admit_answer s.node s.ids at (plan_in s ed body i word at))

@@ -1,30 +1,26 @@
 -- Histories of a gateway: a fresh node, and calls one after the other, each lent the node and stores as the last one
 -- left them, refused calls included. A call is its input; what it answers and leaves are the definitions that its
 -- contract cites.
-use Rattle.std.specs.Prelude.{ℕ, zero, suc, ◌+◌, ◌*◌, ◌^◌, ◌<◌, ◌≡◌, Bool, true, false, cond, List, [], ◌∷◌, ◌++◌, length, get_or, take}
-use Rattle.std.proofs.Math.Option.{Option, none, some}
+use Rattle.std.specs.Prelude.{Option, Some, None, Result, Ok, Err, ℕ, zero, suc, ◌+◌, ◌*◌, ◌^◌, ◌<◌, ◌≡◌, Bool, true}
+use Rattle.std.specs.Prelude.{false, cond, List, [], ◌∷◌, ◌++◌, length, get_or, take}
 use Rattle.basis.specs.declared.Mode.{Mode}
 use Rattle.basis.specs.declared.Edition.{Edition}
 use Rattle.basis.specs.Dialect.{mode_of, spoken}
 use Rattle.basis.specs.Bytes.{Bytes}
 use Rattle.rows.specs.Ids.{same_bytes}
-use Rattle.protobuf.specs.declared.Checked.{Checked}
-use Rattle.protobuf.specs.declared.Checked.TheVariants as checked
+use Rattle.protobuf.specs.declared.Refusal.{Refusal}
 use Rattle.protobuf.specs.Walk.{between}
 use Rattle.schema.specs.Accept.{accept_of}
-use Rattle.ids.specs.declared.MessageAt.{MessageAt}
-use Rattle.ids.specs.declared.MessageAt.TheVariants.{At, Count}
 use Rattle.ids.specs.Ids.{message_at}
 use Rattle.admission.specs.Admission.{vouched}
 use Rattle.node.specs.declared.Node.{Node}
-use Rattle.node.specs.declared.Admit.{Admit}
-use Rattle.node.specs.declared.Admit.TheVariants as answer
-use Rattle.node.specs.declared.Advertise.{Advertise}
-use Rattle.node.specs.declared.Advertise.TheVariants as told
-use Rattle.node.specs.declared.Ask.{Ask}
-use Rattle.node.specs.declared.Ask.TheVariants as asked
-use Rattle.node.specs.declared.Serve.{Serve}
-use Rattle.node.specs.declared.Serve.TheVariants as served
+use Rattle.node.specs.declared.AdmitError.{AdmitError}
+use Rattle.node.specs.declared.AdvertiseError.{AdvertiseError}
+use Rattle.node.specs.declared.AskError.{AskError}
+use Rattle.node.specs.declared.Novelty.TheVariants as novelty
+use Rattle.node.specs.declared.Novelty.{Novelty}
+use Rattle.node.specs.declared.Reply.{Reply}
+use Rattle.node.specs.declared.ServeError.{ServeError}
 use Rattle.node.specs.Gateway.{Gateway}
 use Rattle.node.specs.State.{gateway_in, legal_settings, fresh_node}
 use Rattle.node.specs.Calls.{Plan, planned, admit_number, admit_answer, admit_node, admit_seen, admit_cache}
@@ -76,7 +72,7 @@ abbrev pub plan_in : State → Edition → List ℕ → ℕ → Bool → ℕ →
 plan_in s ed body i word at = planned s.node s.ids s.messages ed body i word at
 
 -- and what it answers
-abbrev pub answer_in : State → Edition → List ℕ → ℕ → Bool → ℕ → Admit
+abbrev pub answer_in : State → Edition → List ℕ → ℕ → Bool → ℕ → Result Novelty AdmitError
 answer_in s ed body i word at = admit_answer s.node s.ids at (plan_in s ed body i word at)
 
 -- the node and stores as a call leaves them
@@ -144,61 +140,53 @@ pub data NoneRefused : List Call → State → Type 0 where
       → NoneRefused (c ∷ cs) s
 
 -- ---- what a call wrote: as many bytes as it answers, from the front of the buffer as it leaves it
-abbrev pub told_bytes : Advertise → List ℕ → List ℕ
-told_bytes (told.Bytes n) out = take n out
-told_bytes (told.Faulty why) out = []
-told_bytes (told.TopicTooLong n) out = []
-told_bytes (told.Room n) out = []
+abbrev pub told_bytes : Result ℕ AdvertiseError → List ℕ → List ℕ
+told_bytes (Ok n) out = take n out
+told_bytes (Err why) out = []
 
-abbrev pub asked_bytes : Ask → List ℕ → List ℕ
-asked_bytes (asked.Bytes n) out = take n out
-asked_bytes (asked.Faulty why) out = []
-asked_bytes (asked.Refused why) out = []
-asked_bytes (asked.Room n) out = []
+abbrev pub asked_bytes : Result ℕ AskError → List ℕ → List ℕ
+asked_bytes (Ok n) out = take n out
+asked_bytes (Err why) out = []
 
-abbrev pub served_bytes : Serve → List ℕ → List ℕ
-served_bytes (served.Reply n messages left) out = take n out
-served_bytes (served.Faulty why) out = []
-served_bytes (served.Refused why) out = []
-served_bytes (served.Room n) out = []
+abbrev pub served_bytes : Result Reply ServeError → List ℕ → List ℕ
+served_bytes (Ok r) out = take r.bytes out
+served_bytes (Err why) out = []
 
-abbrev pub served_messages : Serve → ℕ
-served_messages (served.Reply n messages left) = messages
-served_messages (served.Faulty why) = 0
-served_messages (served.Refused why) = 0
-served_messages (served.Room n) = 0
+abbrev pub served_messages : Result Reply ServeError → ℕ
+served_messages (Ok r) = r.messages
+served_messages (Err why) = 0
 
 -- ---- the message at an index of a body, byte for byte
 pub record Placed (mode : Mode) (s : List ℕ) (i : ℕ) (m : List ℕ) : Type 0 where
   pub start : ℕ
   pub next : ℕ
-  pub found : message_at mode s i ≡ At start next
+  pub found : message_at mode s i ≡ Ok (start, next)
   pub bytes : between s start next ≡ m
 
 -- ---- what comes in, by the call and the flags alone and whatever the node does with it: an admit brings the message
 -- at its index. If the body is refused, the node gets nothing by it; nor if the host's word is not given, unless the
 -- message has no signature and the flags allow that.
-abbrev pub standing : ℕ → Bool → List ℕ → MessageAt → Option (List ℕ)
-standing flags word body (At a e) = cond (vouched flags (between body a e) word) (some (between body a e)) none
-standing flags word body (Count n) = none
+abbrev pub standing : ℕ → Bool → List ℕ → Result (ℕ × ℕ) ℕ → Option (List ℕ)
+standing flags word body (Ok (a, e)) = cond (vouched flags (between body a e) word) (Some (between body a e)) None
+standing flags word body (Err n) = None
 
-abbrev pub where_accepted : Checked → Option (List ℕ) → Option (List ℕ)
-where_accepted checked.Fine m = m
-where_accepted (checked.Refused why) m = none
+abbrev pub where_accepted : Result (Unit {0}) Refusal → Option (List ℕ) → Option (List ℕ)
+where_accepted (Ok tt) m = m
+where_accepted (Err why) m = None
 
 unfoldable pub brought : ℕ → Call → Option (List ℕ)
 brought flags (admit ed body i word at) =
     where_accepted (accept_of (spoken (mode_of flags) ed) body)
     (standing flags word body (message_at (mode_of flags) body i))
-brought flags (heartbeat at) = none
-brought flags (advertise topic windows out) = none
-brought flags (ask ed body out) = none
-brought flags (serve ed body second out) = none
-brought flags (explain id topic windows) = none
+brought flags (heartbeat at) = None
+brought flags (advertise topic windows out) = None
+brought flags (ask ed body out) = None
+brought flags (serve ed body second out) = None
+brought flags (explain id topic windows) = None
 
 abbrev pub is_that : List ℕ → Option (List ℕ) → Bool
-is_that m none = false
-is_that m (some k) = same_bytes k m
+is_that m None = false
+is_that m (Some k) = same_bytes k m
 
 -- a call brings the message m, byte for byte
 abbrev pub brings : ℕ → List ℕ → Call → Bool
@@ -210,26 +198,18 @@ times_got flags m [] = 0
 times_got flags m (c ∷ cs) = cond (brings flags m c) 1 0 + times_got flags m cs
 
 -- ---- and how often it is answered new, and duplicate
-abbrev pub is_new : Admit → ℕ
-is_new answer.New = 1
-is_new answer.Duplicate = 0
-is_new (answer.Faulty why) = 0
-is_new (answer.Refused why) = 0
-is_new (answer.NoMessage n) = 0
-is_new (answer.Unfit why) = 0
-is_new (answer.ClockBack clock) = 0
+abbrev pub is_new : Result Novelty AdmitError → ℕ
+is_new (Ok novelty.New) = 1
+is_new (Ok novelty.Duplicate) = 0
+is_new (Err why) = 0
 
-abbrev pub is_duplicate : Admit → ℕ
-is_duplicate answer.New = 0
-is_duplicate answer.Duplicate = 1
-is_duplicate (answer.Faulty why) = 0
-is_duplicate (answer.Refused why) = 0
-is_duplicate (answer.NoMessage n) = 0
-is_duplicate (answer.Unfit why) = 0
-is_duplicate (answer.ClockBack clock) = 0
+abbrev pub is_duplicate : Result Novelty AdmitError → ℕ
+is_duplicate (Ok novelty.New) = 0
+is_duplicate (Ok novelty.Duplicate) = 1
+is_duplicate (Err why) = 0
 
 -- an admit that brings the message counts as its answer counts, and no other call does
-abbrev pub count_at : (Admit → ℕ) → ℕ → List ℕ → State → Call → ℕ
+abbrev pub count_at : (Result Novelty AdmitError → ℕ) → ℕ → List ℕ → State → Call → ℕ
 count_at f flags m s (admit ed body i word at) =
     cond (brings flags m (admit ed body i word at)) (f (answer_in s ed body i word at)) 0
 count_at f flags m s (heartbeat at) = 0
@@ -238,7 +218,7 @@ count_at f flags m s (ask ed body out) = 0
 count_at f flags m s (serve ed body second out) = 0
 count_at f flags m s (explain id topic windows) = 0
 
-unfoldable pub times : (Admit → ℕ) → ℕ → List ℕ → List Call → State → ℕ
+unfoldable pub times : (Result Novelty AdmitError → ℕ) → ℕ → List ℕ → List Call → State → ℕ
 times f flags m [] s = 0
 times f flags m (c ∷ cs) s = count_at f flags m s c + times f flags m cs (after c s)
 

@@ -1,8 +1,9 @@
 -- Laws about histories that rest on no set of messages: calls and then more calls; what one call leaves; and every
 -- state that calls leave from a fresh one is well formed.
-use Rattle.std.specs.Prelude.{◌≡◌}
+use Rattle.std.specs.Prelude.{Result, ◌≡◌}
 use Rattle.node.specs.declared.Node.{Node}
-use Rattle.node.specs.declared.Admit.{Admit}
+use Rattle.node.specs.declared.AdmitError.{AdmitError}
+use Rattle.node.specs.declared.Novelty.{Novelty}
 use Rattle.node.specs.Gateway.{Gateway, started}
 use Rattle.node.specs.Calls.{Plan, no}
 use Rattle.node.specs.WellFormedLaws.{Keeps}
@@ -27,4 +28,4 @@ pub record Set (x : Settings) (g : Gateway) : Type 0 where
 
 -- ---- an admit takes what it brings under the gateway's flags, and nothing else
 abbrev pub TakesNone : Plan → Type 0
-TakesNone p = (r : Admit) × (p ≡ no r)
+TakesNone p = (r : Result Novelty AdmitError) × (p ≡ no r)

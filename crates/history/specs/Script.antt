@@ -1,10 +1,9 @@
 -- A history written out: each admit beside the message that its body carries and that message's id. What such calls
 -- leave, and how often a message is got and new in them, is then computed over gateways, without their stores.
-use Rattle.std.specs.Prelude.{ℕ, ◌+◌, ◌≤◌, ◌≡◌, true, cond, List, [], ◌∷◌}
+use Rattle.std.specs.Prelude.{Ok, ℕ, ◌+◌, ◌≤◌, ◌≡◌, true, cond, List, [], ◌∷◌}
 use Rattle.basis.specs.declared.Edition.{Edition}
 use Rattle.basis.specs.Dialect.{mode_of, spoken}
 use Rattle.rows.specs.Ids.{same_bytes}
-use Rattle.protobuf.specs.declared.Checked.TheVariants as checked
 use Rattle.schema.specs.Accept.{accept_of}
 use Rattle.admission.specs.Admission.{gives_id}
 use Rattle.node.specs.Gateway.{Gateway, is_new, after_admit, after_beat}
@@ -12,7 +11,7 @@ use Rattle.history.specs.History.{Call, admit, heartbeat, ask, Placed}
 
 -- a body that is taken in an edition, and whose first message is m, which gives that id under some flags
 pub record Carries (flags : ℕ) (ed : Edition) (body m id : List ℕ) : Type 0 where
-  pub accepted : accept_of (spoken (mode_of flags) ed) body ≡ checked.Fine
+  pub accepted : accept_of (spoken (mode_of flags) ed) body ≡ Ok tt
   pub placed : Placed (mode_of flags) body 0 m
   pub own : gives_id flags m id ≡ true
 

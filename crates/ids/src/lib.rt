@@ -3,40 +3,28 @@
 
 pub mod told;
 
-ghost use Rattle.std.specs.Prelude.{◌≡◌, cond, ◌&&◌, ◌||◌, [], ◌∷◌, ◌+◌, ◌-◌, ◌≤◌, ◌<◌, eqb, ltb, length};
+ghost use Rattle.std.specs.Prelude.{◌≡◌, [], ◌∷◌, ◌-◌, ◌≤◌, length};
 ghost use Rattle.basis.specs.Unique.{Leaves};
 ghost use Rattle.protobuf.specs.Walk.{is_bytes};
-ghost use Rattle.ids.specs.Ids.{message_at, on_from, id_parts, answer_id, left_id, id_answer, id_left, mark};
+ghost use Rattle.ids.specs.declared.MessageError.TheVariants.{Refused};
+ghost use Rattle.ids.specs.Ids.{without_id, message_at, on_from, id_parts, answer_id, left_id, id_answer, id_left, mark};
 
 use basis::{Dialect, Mode};
-use protobuf::{Checked, Field, Refusal, Step, WIRE_LEN, put_bytes, read_field};
-use schema::{Kind, Place, accept, slots_of};
+use protobuf::{Field, Refusal, WIRE_LEN, put_bytes, read_field};
+use schema::{Kind, Place, Slots, accept, slots_of};
 
-// Where a message stands in a body, or how many messages there are.
+// Why a message has no id, under verify's names.
 #[derive(Clone, Copy)]
-pub enum MessageAt {
-    At { start: usize, end: usize },
-    Count(usize),
-}
-
-// Where from and seqno stand in a message, or why it has no id.
-#[derive(Clone, Copy)]
-pub enum MessageId {
+pub enum IdError {
     MissingFrom,
     InvalidFrom(usize),
     InvalidSeqno,
-    Parts {
-        from_start: usize,
-        from_end: usize,
-        seqno_start: usize,
-        seqno_end: usize,
-    },
 }
 
-// What a writer of one message's bytes did: so many bytes, or the room that it needs, or why there are none. The names are verify's.
+// Why a writer of one message's bytes wrote none: the room that it needs, why the body is refused, how many messages it has, or why the message has no
+// id.
 #[derive(Clone, Copy)]
-pub enum MessageBytes {
-    Bytes(usize),
+pub enum MessageError {
     Room(usize),
     Refused(Refusal),
     NoMessage(usize),
@@ -45,140 +33,106 @@ pub enum MessageBytes {
     InvalidSeqno,
 }
 
-// Whether a field is the message at an index, n messages before it.
-fn is_it(f: Field, n: usize, index: usize) -> bool
-    ensures { result ≡ is_bytes 2 f && eqb n index }
-{
-    if f.wire_type == WIRE_LEN {
-        if f.field == 2 {
-            return n == index;
-        }
+impl From<Refusal> for MessageError {
+    ghost from_gives = { λ why e. e ≡ Refused why };
+
+    fn from(refusal: Refusal) -> MessageError {
+        MessageError::Refused(refusal)
     }
-    false
 }
 
-// How many messages there are, a field further.
-fn messages_after(f: Field, n: usize) -> usize
-    requires { n < 18446744073709551615 }
-    ensures { result ≡ cond (is_bytes 2 f) (n + 1) n }
-{
-    if f.wire_type == WIRE_LEN {
-        if f.field == 2 {
-            return n + 1;
+impl From<IdError> for MessageError {
+    ghost from_gives = { λ why e. e ≡ without_id why };
+
+    fn from(why: IdError) -> MessageError {
+        match why {
+            IdError::MissingFrom => MessageError::MissingFrom,
+            IdError::InvalidFrom(len) => MessageError::InvalidFrom(len),
+            IdError::InvalidSeqno => MessageError::InvalidSeqno,
         }
     }
-    n
+}
+
+// Whether a field of a body is a message: a length-delimited field 2.
+fn is_message(f: Field) -> bool
+    ensures { result ≡ is_bytes 2 f }
+{
+    f.wire_type == WIRE_LEN && f.field == 2
 }
 
 // The message at an index, counted from 0.
-pub fn message_at(mode: Mode, body: &[u8], index: usize) -> MessageAt
+pub fn message_at(mode: Mode, body: &[u8], index: usize) -> Result<(usize, usize), usize>
     ensures { result ≡ message_at mode body.now index }
 {
     let mut at: usize = 0;
     let mut n: usize = 0;
-    while at < body.len() {
-        let step = read_field(mode, body, at);
-        match step {
-            Step::End => {
-                return MessageAt::Count(n);
+    while let Ok(Some(f)) = read_field(mode, body, at) {
+        if is_message(f) {
+            if n == index {
+                return Ok((f.start, f.next));
             }
-            Step::Refused(_) => {
-                return MessageAt::Count(n);
-            }
-            Step::At(f) => {
-                if is_it(f, n, index) {
-                    return MessageAt::At {
-                        start: f.start,
-                        end: f.next,
-                    };
-                }
-                n = messages_after(f, n);
-                at = f.next;
-            }
+            n += 1;
         }
+        at = f.next;
     }
-    MessageAt::Count(n)
+    Err(n)
 }
 
 // How many bytes lie from a to e.
 pub fn span(a: usize, e: usize) -> usize
     ensures { result ≡ e - a }
 {
-    if e < a {
-        return 0;
-    }
-    e - a
+    e.saturating_sub(a)
 }
 
 // The id of a message whose from and seqno are there. A message without from is refused before its seqno is looked at.
-pub fn id_of(from: Place, seqno: Place) -> MessageId
+pub fn id_of(from: Place, seqno: Place) -> Result<((usize, usize), (usize, usize)), IdError>
     ensures { result ≡ on_from from seqno }
 {
     let Place::Present { start: a, end: e } = from else {
-        return MessageId::MissingFrom;
+        return Err(IdError::MissingFrom);
     };
     let from_len = span(a, e);
-    if from_len == 0 {
-        return MessageId::InvalidFrom(from_len);
-    }
-    if 64 < from_len {
-        return MessageId::InvalidFrom(from_len);
+    if from_len == 0 || 64 < from_len {
+        return Err(IdError::InvalidFrom(from_len));
     }
     let Place::Present { start: b, end: f } = seqno else {
-        return MessageId::InvalidSeqno;
+        return Err(IdError::InvalidSeqno);
     };
     let seqno_len = span(b, f);
-    if seqno_len == 0 {
-        return MessageId::InvalidSeqno;
+    if seqno_len == 0 || 64 < seqno_len {
+        return Err(IdError::InvalidSeqno);
     }
-    if 64 < seqno_len {
-        return MessageId::InvalidSeqno;
-    }
-    MessageId::Parts {
-        from_start: a,
-        from_end: e,
-        seqno_start: b,
-        seqno_end: f,
-    }
+    Ok(((a, e), (b, f)))
 }
 
 // Where from and seqno stand in a message.
-pub fn id_parts(mode: Mode, part: &[u8]) -> MessageId
+pub fn id_parts(mode: Mode, part: &[u8]) -> Result<((usize, usize), (usize, usize)), IdError>
     ensures { result ≡ id_parts mode part.now }
 {
-    let slots = slots_of(mode, part, Kind::RawMessage);
-    let from = slots.first;
-    let seqno = slots.third;
+    let Slots {
+        first: from,
+        third: seqno,
+        ..
+    } = slots_of(mode, part, Kind::RawMessage);
     id_of(from, seqno)
 }
 
 // Writes some bytes and then the id of a message, from and seqno, at the front of out.
-fn put_id(mode: Mode, before: &[u8], part: &[u8], out: &mut [u8]) -> MessageBytes
+fn put_id(mode: Mode, before: &[u8], part: &[u8], out: &mut [u8]) -> Result<usize, MessageError>
     requires { length before.now ≤ 1 }
     ensures value { result ≡ answer_id before.now part.now out.old (id_parts mode part.now) }
     ensures out_after { out.new ≡ left_id before.now part.now out.old (id_parts mode part.now) }
 {
-    let id = id_parts(mode, part);
-    match id {
-        MessageId::MissingFrom => MessageBytes::MissingFrom,
-        MessageId::InvalidFrom(n) => MessageBytes::InvalidFrom(n),
-        MessageId::InvalidSeqno => MessageBytes::InvalidSeqno,
-        MessageId::Parts {
-            from_start: a,
-            from_end: e,
-            seqno_start: b,
-            seqno_end: f,
-        } => {
-            let total = before.len() + (e - a) + (f - b);
-            if out.len() < total {
-                return MessageBytes::Room(total);
-            }
-            let i = put_bytes(out, 0, before);
-            let j = put_bytes(out, i, &part[a..e]);
-            put_bytes(out, j, &part[b..f]);
-            MessageBytes::Bytes(total)
-        }
+    let ((a, e), (b, f)) = id_parts(mode, part)?;
+    let total = before.len() + (e - a) + (f - b);
+    if out.len() < total {
+        return Err(MessageError::Room(total));
     }
+    let i = put_bytes(out, 0, before);
+    let j = put_bytes(out, i, &part[a..e]);
+    put_bytes(out, j, &part[b..f]);
+    Ok(total)
 }
 
 // The same for the message at an index of a body.
@@ -188,27 +142,24 @@ fn put_id_at(
     body: &[u8],
     index: usize,
     out: &mut [u8],
-) -> MessageBytes
+) -> Result<usize, MessageError>
     requires { length before.now ≤ 1 }
     ensures value { result ≡ id_answer before.now dialect body.now index out.old }
     ensures out_after { out.new ≡ id_left before.now dialect body.now index out.old }
 {
     let mode = dialect.mode;
-    let c = accept(dialect, body);
-    match c {
-        Checked::Refused(why) => MessageBytes::Refused(why),
-        Checked::Fine => {
-            let m = message_at(mode, body, index);
-            match m {
-                MessageAt::Count(n) => MessageBytes::NoMessage(n),
-                MessageAt::At { start, end } => put_id(mode, before, &body[start..end], out),
-            }
-        }
-    }
+    accept(dialect, body)?;
+    let (start, end) = message_at(mode, body, index).map_err(MessageError::NoMessage)?;
+    put_id(mode, before, &body[start..end], out)
 }
 
 // Writes the id of the message at an index: from and then seqno.
-pub fn message_id(dialect: Dialect, body: &[u8], index: usize, out: &mut [u8]) -> MessageBytes
+pub fn message_id(
+    dialect: Dialect,
+    body: &[u8],
+    index: usize,
+    out: &mut [u8],
+) -> Result<usize, MessageError>
     ensures { Leaves (id_answer [] dialect body.now index out.old)
         (id_left [] dialect body.now index out.old) result out.new }
 {
@@ -222,12 +173,9 @@ pub fn seen_message_id(
     index: usize,
     signed: bool,
     out: &mut [u8],
-) -> MessageBytes
+) -> Result<usize, MessageError>
     ensures { Leaves (id_answer (mark signed ∷ []) dialect body.now index out.old)
         (id_left (mark signed ∷ []) dialect body.now index out.old) result out.new }
 {
-    if signed {
-        return put_id_at(b"\x01", dialect, body, index, out);
-    }
-    put_id_at(b"\x00", dialect, body, index, out)
+    put_id_at(&[signed as u8], dialect, body, index, out)
 }

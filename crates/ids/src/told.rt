@@ -2,20 +2,20 @@
 ghost use Rattle.std.specs.Prelude.{◌≡◌};
 ghost use Rattle.ids.specs.Told.{message_told};
 
-use super::MessageBytes;
+use super::MessageError;
 use basis::{Told, refusals};
 use protobuf::told::told_refusal;
 
-pub fn told_message(answer: MessageBytes) -> Told
+pub fn told_message(answer: Result<usize, MessageError>) -> Told
     ensures { result ≡ message_told answer }
 {
     match answer {
-        MessageBytes::Bytes(count) => Told::one(0, count as u64),
-        MessageBytes::Refused(refusal) => told_refusal(refusal),
-        MessageBytes::NoMessage(count) => Told::one(refusals::NO_MESSAGE, count as u64),
-        MessageBytes::MissingFrom => Told::none(refusals::MISSING_FROM),
-        MessageBytes::InvalidFrom(len) => Told::one(refusals::INVALID_FROM, len as u64),
-        MessageBytes::InvalidSeqno => Told::none(refusals::INVALID_SEQNO),
-        MessageBytes::Room(needed) => Told::one(refusals::SHORT_ROOM, needed as u64),
+        Ok(count) => Told::one(0, count as u64),
+        Err(MessageError::Refused(refusal)) => told_refusal(refusal),
+        Err(MessageError::NoMessage(count)) => Told::one(refusals::NO_MESSAGE, count as u64),
+        Err(MessageError::MissingFrom) => Told::none(refusals::MISSING_FROM),
+        Err(MessageError::InvalidFrom(len)) => Told::one(refusals::INVALID_FROM, len as u64),
+        Err(MessageError::InvalidSeqno) => Told::none(refusals::INVALID_SEQNO),
+        Err(MessageError::Room(needed)) => Told::one(refusals::SHORT_ROOM, needed as u64),
     }
 }

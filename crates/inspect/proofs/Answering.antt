@@ -9,6 +9,7 @@ use lib.ListN.{length, take, drop, length-drop, length-take, drop_of_length-le}
 use lib.Seq.{take_all}
 use lib.Dec.{leb, ltb}
 use borrow.Author.Tests.{ltb-true, ltb-false, lt-ltb, le-ltb, le-leb, lt-leb, ne_eqb}
+use Rattle.std.specs.Prelude.{Result, Ok, Err, Option}
 use Rattle.basis.specs.Cases.{either}
 use Rattle.basis.specs.Little.{little}
 use Rattle.basis.specs.declared.Mode.{Mode}
@@ -18,19 +19,18 @@ use Rattle.basis.specs.Dialect.{dialect_of}
 use Rattle.basis.specs.declared.Told.{Told}
 use Rattle.text.specs.Line.{Puts, decimal, number, hex}
 use Rattle.text.specs.Laws.{puts_then, puts_as}
-use Rattle.peer_id.specs.declared.Uvarint.{Uvarint}
 use Rattle.peer_id.specs.Uvarint.{read_uvarint}
 use Rattle.peer_id.specs.declared.PeerId.{PeerId}
 use Rattle.peer_id.specs.PeerId.{from_bytes}
-use Rattle.key.specs.declared.KeyType.{KeyType}
 use Rattle.key.specs.declared.PublicKeyError.{PublicKeyError}
 use Rattle.key.specs.declared.PublicKey.{PublicKey}
-use Rattle.key.specs.declared.PublicKey.TheVariants.{Key, Refused as NoKey}
+use Rattle.peer_id.specs.declared.VarintError.{VarintError}
+use Rattle.protobuf.specs.declared.Refusal.{Refusal}
+use Rattle.protobuf.specs.declared.Walked.{Walked}
 use Rattle.key.specs.Key.{code_of}
 use Rattle.key.specs.Told.{key_told}
 use Rattle.key.specs.Decode.{decode_protobuf}
 use Rattle.utf8.specs.Utf8.{is_utf8}
-use Rattle.protobuf.specs.declared.Walk.{Walk}
 use Rattle.protobuf.specs.Field.{walk_step}
 use Rattle.lines.specs.Lines.{Wrote, refusal}
 use Rattle.lines.specs.Laws.{wrote_as, puts_wrote}
@@ -43,7 +43,7 @@ pub walk-short : (mode : Mode) (s : List ℕ) → length s < 8 → [] ≡ walk_a
 unfolding walk_answer
 walk-short mode s h = simp (lt-ltb _ _ h)
 
-pub walk_answer_lem : (mode : Mode) (s : List ℕ) (at : ℕ) (w : Walk) → 8 ≤ length s → at ≡ little (take 8 (drop 0 s)) → w ≡ walk_step mode (take (length s - 8) (drop 8 s)) at
+pub walk_answer_lem : (mode : Mode) (s : List ℕ) (at : ℕ) (w : Result (Option Walked) Refusal) → 8 ≤ length s → at ≡ little (take 8 (drop 0 s)) → w ≡ walk_step mode (take (length s - 8) (drop 8 s)) at
     → (32 ∷ 119 ∷ 97 ∷ 108 ∷ 107 ∷ []) ++ walk w ≡ walk_answer mode s
 unfolding walk_answer
 walk_answer_lem mode s at w h p e =
@@ -72,7 +72,7 @@ spoken_answer_lem s n d p h e =
     let f : take (length s - 1) (drop 1 s) ≡ drop 1 s = take_all (length s - 1) (drop 1 s) (rw (length-drop 1 s) (omega arith)) in
     rw (e, f) (spoken-low s n p h)
 
-pub varint_answer_lem : (s : List ℕ) (v : Uvarint) → v ≡ read_uvarint s → (32 ∷ 118 ∷ 97 ∷ 114 ∷ 105 ∷ 110 ∷ 116 ∷ []) ++ varint v ≡ varint_answer s
+pub varint_answer_lem : (s : List ℕ) (v : Result (ℕ × ℕ) VarintError) → v ≡ read_uvarint s → (32 ∷ 118 ∷ 97 ∷ 114 ∷ 105 ∷ 110 ∷ 116 ∷ []) ++ varint v ≡ varint_answer s
 unfolding varint_answer
 varint_answer_lem s v e = rw e
 
@@ -84,19 +84,20 @@ pub utf8_no : (s : List ℕ) → is_utf8 s ≡ false → 32 ∷ 117 ∷ 116 ∷ 
 unfolding utf8_answer
 utf8_no s e = rw e
 
-pub key_answer_lem : (s : List ℕ) (k : PublicKey) → k ≡ decode_protobuf s → (32 ∷ 107 ∷ 101 ∷ 121 ∷ []) ++ key_text s k ≡ key_answer s
+pub key_answer_lem : (s : List ℕ) (k : Result PublicKey PublicKeyError) → k ≡ decode_protobuf s → (32 ∷ 107 ∷ 101 ∷ 121 ∷ []) ++ key_text s k ≡ key_answer s
 unfolding key_answer
 key_answer_lem s k e = rw e
 
-pub peer_answer_lem : (s : List ℕ) (p : PeerId) → p ≡ from_bytes s → (32 ∷ 112 ∷ 101 ∷ 101 ∷ 114 ∷ []) ++ peer_id_text s p ≡ peer_answer s
+pub peer_answer_lem : (s : List ℕ) (p : Option PeerId) → p ≡ from_bytes s → (32 ∷ 112 ∷ 101 ∷ 101 ∷ 114 ∷ []) ++ peer_id_text s p ≡ peer_answer s
 unfolding peer_answer
 peer_answer_lem s p e = rw e
 
-pub key-there : (s : List ℕ) (k : PublicKey) (t : KeyType) (start code : ℕ) → k ≡ Key t start → code ≡ code_of t → number code ++ bytes_text (drop start s) ≡ key_text s k
+pub key-there : (s : List ℕ) (k : Result PublicKey PublicKeyError) (key : PublicKey) (code : ℕ) → k ≡ Ok key
+    → code ≡ code_of key.key_type → number code ++ bytes_text (drop key.start s) ≡ key_text s k
 unfolding key_text
-key-there s k t start code e f = rw (e, f)
+key-there s k key code e f = rw (e, f)
 
-pub key-refused : (s : List ℕ) (k : PublicKey) (why : PublicKeyError) (t : Told) → k ≡ NoKey why → t ≡ key_told k → refusal t ≡ key_text s k
+pub key-refused : (s : List ℕ) (k : Result PublicKey PublicKeyError) (why : PublicKeyError) (t : Told) → k ≡ Err why → t ≡ key_told k → refusal t ≡ key_text s k
 unfolding key_text
 key-refused s k why t e f = rw (f, e)
 

@@ -1,32 +1,31 @@
 -- The lines, in ASCII. A record that is bad, its kind unknown or its content too short, has none.
-use Rattle.std.specs.Prelude.{ℕ, List, [], ◌∷◌, ◌++◌, cond, length, take, drop, ltb, eqb}
+use Rattle.std.specs.Prelude.{Result, Ok, Err, Option, Some, None, ℕ, List, [], ◌∷◌, ◌++◌, cond, length, take, drop, ltb, eqb}
 use Rattle.basis.specs.declared.Mode.{Mode}
 use Rattle.basis.specs.declared.Mode.TheVariants.{Plain}
+use Rattle.peer_id.specs.declared.VarintError.{VarintError}
+use Rattle.protobuf.specs.declared.Refusal.{Refusal}
+use Rattle.protobuf.specs.declared.Walked.{Walked}
 use Rattle.basis.specs.Dialect.{dialect_of}
 use Rattle.basis.specs.Little.{little}
 use Rattle.text.specs.Line.{decimal, number}
 use Rattle.lines.specs.Lines.{refusal}
-use Rattle.peer_id.specs.declared.Uvarint.{Uvarint}
-use Rattle.peer_id.specs.declared.Uvarint.TheVariants.{Value, Refused as Unread}
 use Rattle.peer_id.specs.Uvarint.{read_uvarint}
 use Rattle.peer_id.specs.Told.{varint_told}
 use Rattle.utf8.specs.Utf8.{is_utf8}
-use Rattle.protobuf.specs.declared.Walk.{Walk}
-use Rattle.protobuf.specs.declared.Walk.TheVariants.{End, Field, Refused}
 use Rattle.protobuf.specs.Told.{refusal_told}
 use Rattle.protobuf.specs.Field.{walk_step}
 use Rattle.inspect.specs.Senders.{key_answer, peer_answer}
 
 -- ` end`; or the field, its wire type, the place after its tag and the next place
-unfoldable pub walk : Walk → List ℕ
-walk End = 32 ∷ 101 ∷ 110 ∷ 100 ∷ []
-walk (Refused r) = refusal (refusal_told r)
-walk (Field f type at next) = number f ++ (number type ++ (number at ++ number next.at))
+unfoldable pub walk : Result (Option Walked) Refusal → List ℕ
+walk (Ok None) = 32 ∷ 101 ∷ 110 ∷ 100 ∷ []
+walk (Err r) = refusal (refusal_told r)
+walk (Ok (Some w)) = number w.field ++ (number w.wire_type ++ (number w.tag_end ++ number w.next.at))
 
 -- the value and how many bytes it took
-unfoldable pub varint : Uvarint → List ℕ
-varint (Unread why) = refusal (varint_told why)
-varint (Value x n) = number x ++ number n
+unfoldable pub varint : Result (ℕ × ℕ) VarintError → List ℕ
+varint (Err why) = refusal (varint_told why)
+varint (Ok (x, n)) = number x ++ number n
 
 -- ---- the call and the answer to a content, for each kind
 -- ` walk`, in a mode: a place and then a body; nothing where the place is cut

@@ -3,14 +3,10 @@
 -- for each bit of the mask that is set, the lowest first, what it stands for: bit 0 the number (u64), bits 1 to 5 the
 -- five fields, each its start and its end (u64 each). Numbers have their low byte first. A row that is cut or whose mask
 -- is above 63 is bad, and so is the whole.
-use Rattle.std.specs.Prelude.{ℕ, zero, suc, ◌+◌, ◌*◌, ◌/◌, ◌%◌, ◌≤◌, ◌≡◌, cond, List, [], ◌∷◌, ◌++◌, length, take, drop, ltb, eqb}
-use Rattle.std.proofs.Math.Option.{Option, none, some}
+use Rattle.std.specs.Prelude.{ℕ, zero, suc, ◌+◌, ◌*◌, ◌/◌, ◌%◌, ◌≤◌, ◌≡◌, cond, List, [], ◌∷◌, ◌++◌, length, take, drop, ltb, eqb, Option, Some, None}
 use Rattle.std.proofs.lemmas.List.Edits.{sets}
 use Rattle.basis.specs.Little.{little}
-use Rattle.inspect.specs.declared.lists.Ends.{Ends}
-use Rattle.inspect.specs.declared.lists.Ends.TheVariants as ends
 use Rattle.inspect.specs.declared.lists.Lent.{Lent}
-use Rattle.inspect.specs.declared.lists.Lent.TheVariants as lent
 
 -- ---- a row
 -- the number in n bytes at a place
@@ -52,23 +48,23 @@ mask_at s at = number_at 1 s (at + 1)
 abbrev pub row_words : List ℕ → ℕ → List ℕ
 row_words s at = words_by (mask_at s at) s at
 
-unfoldable pub row_end : List ℕ → ℕ → Ends
+unfoldable pub row_end : List ℕ → ℕ → Option ℕ
 row_end s at =
-    cond (ltb (length s) (at + 18)) ends.Bad
-    (cond (ltb 63 (mask_at s at)) ends.Bad
-    (cond (ltb (length s) (words_end (mask_at s at) at)) ends.Bad (ends.At (words_end (mask_at s at) at))))
+    cond (ltb (length s) (at + 18)) None
+    (cond (ltb 63 (mask_at s at)) None
+    (cond (ltb (length s) (words_end (mask_at s at) at)) None (Some (words_end (mask_at s at) at))))
 
 -- ---- n rows, one after the other
-abbrev pub end_from : (ℕ → Ends) → Ends → Ends
-end_from f ends.Bad = ends.Bad
-end_from f (ends.At p) = f p
+abbrev pub end_from : (ℕ → Option ℕ) → Option ℕ → Option ℕ
+end_from f None = None
+end_from f (Some p) = f p
 
-abbrev pub words_from : (ℕ → List ℕ) → Ends → List ℕ
-words_from f ends.Bad = []
-words_from f (ends.At p) = f p
+abbrev pub words_from : (ℕ → List ℕ) → Option ℕ → List ℕ
+words_from f None = []
+words_from f (Some p) = f p
 
-unfoldable pub rows_end : ℕ → List ℕ → ℕ → Ends
-rows_end zero s at = ends.At at
+unfoldable pub rows_end : ℕ → List ℕ → ℕ → Option ℕ
+rows_end zero s at = Some at
 rows_end (suc n) s at = end_from (rows_end n s) (row_end s at)
 
 unfoldable pub rows_words : ℕ → List ℕ → ℕ → List ℕ
@@ -81,36 +77,35 @@ pub record Lists : Type 0 where
   pub words : List ℕ
   pub bytes : List ℕ
 
-abbrev pub lists_to : ℕ → ℕ → List ℕ → Ends → Option Lists
-lists_to room n s ends.Bad = none
-lists_to room n s (ends.At p) = some (record { room = room; words = rows_words n s 6; bytes = drop p s })
+abbrev pub lists_to : ℕ → ℕ → List ℕ → Option ℕ → Option Lists
+lists_to room n s None = None
+lists_to room n s (Some p) = Some (record { room = room; words = rows_words n s 6; bytes = drop p s })
 
 -- nothing where the content is bad
 unfoldable pub lists_in : List ℕ → Option Lists
 lists_in s =
-    cond (ltb (length s) 6) none
-    (cond (ltb 65600 (number_at 4 s 0)) none
-    (cond (ltb 640 (number_at 2 s 4)) none (lists_to (number_at 4 s 0) (number_at 2 s 4) s (rows_end (number_at 2 s 4) s 6))))
+    cond (ltb (length s) 6) None
+    (cond (ltb 65600 (number_at 4 s 0)) None
+    (cond (ltb 640 (number_at 2 s 4)) None (lists_to (number_at 4 s 0) (number_at 2 s 4) s (rows_end (number_at 2 s 4) s 6))))
 
 -- ---- what the readers answer
 -- what an answer says of the content s, with the table t: the rows are its first words, the bytes are those from the
 -- start on
-abbrev pub held : List ℕ → List ℕ → Lent → Option Lists
-held s t lent.Bad = none
-held s t (lent.Lists room words start) = some (record { room = room; words = take words t; bytes = drop start s })
+abbrev pub held : List ℕ → List ℕ → Option Lent → Option Lists
+held s t None = None
+held s t (Some r) = Some (record { room = r.room; words = take r.words t; bytes = drop r.start s })
 
 -- a row at `at` went to the table's word i
-pub record RowRead (s : List ℕ) (at : ℕ) (t : List ℕ) (i : ℕ) (after : List ℕ) (r : Ends) : Type 0 where
+pub record RowRead (s : List ℕ) (at : ℕ) (t : List ℕ) (i : ℕ) (after : List ℕ) (r : Option ℕ) : Type 0 where
   pub answer : r ≡ row_end s at
-  pub words : (p : ℕ) → row_end s at ≡ ends.At p → after ≡ sets t i (row_words s at)
+  pub words : (p : ℕ) → row_end s at ≡ Some p → after ≡ sets t i (row_words s at)
 
 -- n rows went to the table's front
-pub record RowsRead (n : ℕ) (s : List ℕ) (at : ℕ) (after : List ℕ) (r : Ends) : Type 0 where
+pub record RowsRead (n : ℕ) (s : List ℕ) (at : ℕ) (after : List ℕ) (r : Option ℕ) : Type 0 where
   pub answer : r ≡ rows_end n s at
-  pub words : (p : ℕ) → rows_end n s at ≡ ends.At p → take (20 * n) after ≡ rows_words n s at
+  pub words : (p : ℕ) → rows_end n s at ≡ Some p → take (20 * n) after ≡ rows_words n s at
 
 -- the lists of a content
-pub record ListsRead (s after : List ℕ) (r : Lent) : Type 0 where
+pub record ListsRead (s after : List ℕ) (r : Option Lent) : Type 0 where
   pub says : held s after r ≡ lists_in s
-  pub fits : (room words start : ℕ) → r ≡ lent.Lists room words start
-      → (room ≤ 65600) × (words ≤ 12800) × (start ≤ length s)
+  pub fits : (l : Lent) → r ≡ Some l → (l.room ≤ 65600) × (l.words ≤ 12800) × (l.start ≤ length s)

@@ -1,6 +1,6 @@
 -- The lines that answer a body, in ASCII: one for the call, and one for each record. Absent is ` -`; bytes are ` =` and
 -- their hex.
-use Rattle.std.specs.Prelude.{ℕ, List, [], ◌∷◌, ◌++◌, map, true, cond, length, ltb, eqb}
+use Rattle.std.specs.Prelude.{Option, Some, None, ℕ, List, [], ◌∷◌, ◌++◌, map, true, cond, length, ltb, eqb}
 use Rattle.basis.specs.declared.Dialect.{Dialect}
 use Rattle.basis.specs.declared.Told.{Told}
 use Rattle.text.specs.Line.{decimal, number, hex}
@@ -13,8 +13,6 @@ use Rattle.schema.specs.declared.Number.{Number}
 use Rattle.schema.specs.declared.Number.TheVariants as num
 use Rattle.schema.specs.declared.Slots.{Slots}
 use Rattle.message.specs.declared.Record.{Record}
-use Rattle.message.specs.declared.RecordAt.{RecordAt}
-use Rattle.message.specs.declared.RecordAt.TheVariants as found
 use Rattle.message.specs.Rows.{rows_of}
 use Rattle.lines.specs.Lines.{refusal_line}
 
@@ -80,9 +78,9 @@ record_line b r =
     (cond (ltb (length b) r.end) []
     (record_text r.kind (between b r.start r.end) r.slots ++ (10 ∷ [])))
 
-unfoldable pub row_line : List ℕ → RecordAt → List ℕ
-row_line b found.Nothing = []
-row_line b (found.Record r) = record_line b r
+unfoldable pub row_line : List ℕ → Option Record → List ℕ
+row_line b None = []
+row_line b (Some r) = record_line b r
 
 -- the lines of the records of a body that decode takes
 unfoldable pub lines_of : Dialect → List ℕ → List (List ℕ)

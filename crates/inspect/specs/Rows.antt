@@ -1,7 +1,6 @@
 -- Lines, worked out: `1 walk refused 4 2 5 1 at 2` for the scope's body `0a 05 08`, `12 varint 300 2`, `3 utf8 no`,
 -- and no line for kind 12.
-use Rattle.std.specs.Prelude.{◌≡◌, refl, [], ◌∷◌, ◌++◌, replicate}
-use Rattle.std.proofs.Math.Option.{none, some}
+use Rattle.std.specs.Prelude.{◌≡◌, refl, [], ◌∷◌, ◌++◌, replicate, Some, None}
 use Rattle.basis.specs.declared.Edition.{Edition}
 use Rattle.basis.specs.declared.Edition.TheVariants.{V11, V12}
 use Rattle.basis.specs.declared.Mode.{Mode}
@@ -45,7 +44,8 @@ pub rows :
     × (line_of 3 7 (0xc0 ∷ 0x80 ∷ []) ≡ 51 ∷ 32 ∷ 117 ∷ 116 ∷ 102 ∷ 56 ∷ 32 ∷ 110 ∷ 111 ∷ 10 ∷ [])
     × (line_of 4 12 [] ≡ [])
 unfolding line_of closed answer_to walk_answer varint_answer utf8_answer walk varint little width decimal number numbers
-    refused fields_text spot_text read_uvarint read_from group_of is_utf8 run read_tag read_len skip_value skip_field walk_step
+    refused fields_text spot_text read_uvarint read_from group_of is_utf8 run read_tag read_len read_varint skip_value skip_field
+    walk_step
 rows = (refl, refl, refl, refl)
 
 -- keys and peer ids: `1 key 0 =` for `08 00 12 00`, `2 key 3 =00` for `08 03 12 01 00`, `3 key refused 35` for a byte
@@ -139,12 +139,12 @@ groups e = (refl, refl, refl, refl, refl, refl, refl, refl, refl, refl)
 pub lists :
     (lists_in ((7 ∷ 0 ∷ 0 ∷ 0 ∷ 1 ∷ 0 ∷ 1 ∷ 3 ∷ [])
     ++ (replicate 16 0 ++ ((1 ∷ replicate 7 0) ++ (replicate 8 0 ++ ((1 ∷ replicate 7 0) ++ (116 ∷ []))))))
-    ≡ some (record { room = 7; words = 1 ∷ 0 ∷ 0 ∷ 1 ∷ 1 ∷ 1 ∷ 0 ∷ 1 ∷ replicate 12 0; bytes = 116 ∷ [] }))
-    × (lists_in (replicate 6 0) ≡ some (record { room = 0; words = []; bytes = [] }))
-    × (lists_in ((7 ∷ 0 ∷ 0 ∷ 0 ∷ 1 ∷ 0 ∷ 8 ∷ 64 ∷ []) ++ replicate 40 0) ≡ none)
-    × (lists_in ((7 ∷ 0 ∷ 0 ∷ 0 ∷ 1 ∷ 0 ∷ 8 ∷ 2 ∷ []) ++ replicate 31 0) ≡ none)
-    × (lists_in (0x41 ∷ 0 ∷ 1 ∷ 0 ∷ 0 ∷ 0 ∷ []) ≡ none)
-    × (lists_in (0 ∷ 0 ∷ 0 ∷ 0 ∷ 0x81 ∷ 2 ∷ []) ≡ none)
+    ≡ Some (record { room = 7; words = 1 ∷ 0 ∷ 0 ∷ 1 ∷ 1 ∷ 1 ∷ 0 ∷ 1 ∷ replicate 12 0; bytes = 116 ∷ [] }))
+    × (lists_in (replicate 6 0) ≡ Some (record { room = 0; words = []; bytes = [] }))
+    × (lists_in ((7 ∷ 0 ∷ 0 ∷ 0 ∷ 1 ∷ 0 ∷ 8 ∷ 64 ∷ []) ++ replicate 40 0) ≡ None)
+    × (lists_in ((7 ∷ 0 ∷ 0 ∷ 0 ∷ 1 ∷ 0 ∷ 8 ∷ 2 ∷ []) ++ replicate 31 0) ≡ None)
+    × (lists_in (0x41 ∷ 0 ∷ 1 ∷ 0 ∷ 0 ∷ 0 ∷ []) ≡ None)
+    × (lists_in (0 ∷ 0 ∷ 0 ∷ 0 ∷ 0x81 ∷ 2 ∷ []) ≡ None)
 unfolding lists_in rows_end rows_words row_end words_by words_end fields_words fields_end word_if little
 lists = (refl, refl, refl, refl, refl, refl)
 

@@ -5,22 +5,12 @@ ghost use Rattle.inspect.specs.Lists.{word_if, fields_words, fields_end, words_b
 
 use basis::{has_room, little_at};
 
-// Where a row ends, or several; bad where one is cut or its mask is none.
-#[derive(Clone, Copy)]
-pub(crate) enum Ends {
-    Bad,
-    At(usize),
-}
-
 // How much room there is, how many words the rows have in the table, and where the lent bytes begin.
 #[derive(Clone, Copy)]
-pub(crate) enum Lent {
-    Bad,
-    Lists {
-        room: usize,
-        words: usize,
-        start: usize,
-    },
+pub(crate) struct Lent {
+    pub room: usize,
+    pub words: usize,
+    pub start: usize,
 }
 
 // The word at a place where a bit is set, else 0.
@@ -51,18 +41,15 @@ fn put_fields(mask: u64, s: &[u8], at: usize, table: &mut [u64], i: usize) -> us
     ensures value { result ≡ fields_end 5 mask at }
     ensures table_after { table.new ≡ sets table.old i (fields_words 5 mask s.now at) }
 {
-    let mut left: usize = 5;
     let mut m = mask;
     let mut p = at;
-    let mut w = i;
-    while 0 < left {
+    for field in 0..5 {
         let bit = m % 2;
         let start = word_if(bit, s, p);
         let end = word_if(bit, s, p + 8);
-        w = put_three(table, w, bit, start, end);
-        p = p + 16 * bit as usize;
-        m = m / 2;
-        left -= 1;
+        put_three(table, i + 3 * field, bit, start, end);
+        p += 16 * bit as usize;
+        m /= 2;
     }
     p
 }
@@ -85,68 +72,57 @@ fn put_words(mask: u64, s: &[u8], at: usize, table: &mut [u64], i: usize) -> usi
     put_fields(mask / 2, s, first, table, j + 2)
 }
 
-// A row at `at`, whose words go to the table at i.
-fn put_row(s: &[u8], at: usize, table: &mut [u64], i: usize) -> Ends
+// A row at `at`, whose words go to the table at i. Where it ends; nothing where it is cut or its mask is none.
+fn put_row(s: &[u8], at: usize, table: &mut [u64], i: usize) -> Option<usize>
     requires { (length s.now ≤ 65600) × (i + 20 ≤ length table.old) }
     ensures { RowRead s.now at table.old i table.new result }
 {
-    if has_room(s.len(), at, 18) {
-        let mask = little_at(s, at + 1, 1);
-        if 63 < mask {
-            return Ends::Bad;
-        }
-        let end = put_words(mask, s, at, table, i);
-        if s.len() < end {
-            return Ends::Bad;
-        }
-        return Ends::At(end);
+    if !has_room(s.len(), at, 18) {
+        return None;
     }
-    Ends::Bad
+    let mask = little_at(s, at + 1, 1);
+    if 63 < mask {
+        return None;
+    }
+    let end = put_words(mask, s, at, table, i);
+    if s.len() < end {
+        return None;
+    }
+    Some(end)
 }
 
-// So many rows, from `at` on, whose words go to the front of the table.
-fn put_rows(count: usize, s: &[u8], at: usize, table: &mut [u64]) -> Ends
+// So many rows, from `at` on, whose words go to the front of the table. Where they end; nothing where one is bad.
+fn put_rows(count: usize, s: &[u8], at: usize, table: &mut [u64]) -> Option<usize>
     requires { (length s.now ≤ 65600) × (20 * count ≤ length table.old) }
     ensures { RowsRead count s.now at table.new result }
 {
-    let mut left = count;
     let mut p = at;
-    let mut w: usize = 0;
-    while 0 < left {
-        let row = put_row(s, p, table, w);
-        let Ends::At(next) = row else {
-            return Ends::Bad;
-        };
-        p = next;
-        w += 20;
-        left -= 1;
+    for row in 0..count {
+        p = put_row(s, p, table, 20 * row)?;
     }
-    Ends::At(p)
+    Some(p)
 }
 
-// The lists that a content holds.
-pub(crate) fn read_lists(s: &[u8], table: &mut [u64]) -> Lent
+// The lists that a content holds; nothing where it is bad.
+pub(crate) fn read_lists(s: &[u8], table: &mut [u64]) -> Option<Lent>
     requires { (length s.now ≤ 65600) × (12800 ≤ length table.old) }
     ensures { ListsRead s.now table.new result }
 {
     if s.len() < 6 {
-        return Lent::Bad;
+        return None;
     }
     let room = little_at(s, 0, 4);
     if 65600 < room {
-        return Lent::Bad;
+        return None;
     }
     let count = little_at(s, 4, 2);
     if 640 < count {
-        return Lent::Bad;
+        return None;
     }
-    let ends = put_rows(count as usize, s, 6, table);
-    match ends {
-        Ends::Bad => Lent::Bad,
-        Ends::At(start) => Lent::Lists {
-            room: room as usize,
-            words: 20 * count as usize,
-            start,
-        },
-    }
+    let start = put_rows(count as usize, s, 6, table)?;
+    Some(Lent {
+        room: room as usize,
+        words: 20 * count as usize,
+        start,
+    })
 }

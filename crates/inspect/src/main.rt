@@ -21,53 +21,56 @@ use compose::told::told_composed;
 use compose::{sign_fields, write_rpc};
 use ids::told::told_message;
 use lines::{end_line, put_refusal, put_value, put_word, start_line};
-use lists::{Lent, read_lists};
+use lists::read_lists;
 use made::{encode_line, id_line, sign_line, tosign_line, write_line};
 use message::told::told_decoded;
-use peer_id::Uvarint;
+use peer_id::VarintError;
 use peer_id::told::told_varint;
 use protobuf::told::{told_encoded, told_refusal};
-use protobuf::{Cursor, Walk};
+use protobuf::{Cursor, Refusal, Walked};
 use records::{decode_line, records_in, row_line};
 use senders::{answer_key, answer_peer};
-use text::{Header, next_header};
+use text::{Header, HeaderError, last, next_header};
 
 // The highest number of a dialect.
 const MAX_DIALECT: u64 = 3;
 
+// The buffers of a run: a record's content, the table of a body's records or of lists, what a call makes, and a line.
+type Content = [u8; 65600];
+
+type Table = [u64; 12800];
+
+type Made = [u8; 65600];
+
+type Lines = [u8; 787456];
+
 // One step of the field walk.
-fn put_walk(out: &mut [u8], at: usize, w: Walk) -> usize
+fn put_walk(out: &mut [u8], at: usize, w: Result<Option<Walked>, Refusal>) -> usize
     requires { at + 182 ≤ length out.old }
     ensures { Puts 182 (walk w) out.old at out.new result }
 {
     match w {
-        Walk::End => put_word(out, at, b" end"),
-        Walk::Refused(refusal) => put_refusal(out, at, told_refusal(refusal)),
-        Walk::Field {
-            field,
-            wire_type,
-            tag_end,
-            next,
-        } => {
-            let to = next.at;
-            let i = put_value(out, at, field);
-            let j = put_value(out, i, wire_type as u64);
-            let k = put_value(out, j, tag_end as u64);
-            put_value(out, k, to as u64)
+        Ok(None) => put_word(out, at, b" end"),
+        Ok(Some(found)) => {
+            let i = put_value(out, at, found.field);
+            let j = put_value(out, i, found.wire_type as u64);
+            let k = put_value(out, j, found.tag_end as u64);
+            put_value(out, k, found.next.at as u64)
         }
+        Err(refusal) => put_refusal(out, at, told_refusal(refusal)),
     }
 }
 
-fn put_varint(out: &mut [u8], at: usize, v: Uvarint) -> usize
+fn put_varint(out: &mut [u8], at: usize, v: Result<(u64, usize), VarintError>) -> usize
     requires { at + 182 ≤ length out.old }
     ensures { Puts 182 (varint v) out.old at out.new result }
 {
     match v {
-        Uvarint::Refused(why) => put_refusal(out, at, told_varint(why)),
-        Uvarint::Value { value, used } => {
+        Ok((value, used)) => {
             let i = put_value(out, at, value);
             put_value(out, i, used as u64)
         }
+        Err(why) => put_refusal(out, at, told_varint(why)),
     }
 }
 
@@ -186,32 +189,22 @@ fn print(out: &[u8], k: usize) -> bool
     io::write_all(1, &out[..k])
 }
 
-// Prints the word that ends the run.
-fn last(word: &[u8]) -> bool {
-    io::write_all(1, word);
-    false
-}
-
 // Prints the lines of the first `count` rows of the table. Answers whether they were printed.
-fn print_rows(body: &[u8], table: &[u64], count: usize, out: &mut [u8]) -> bool
-    requires body_len_bound { length body.now ≤ 65600 }
-    requires in_bounds { 787456 ≤ length out.old }
+fn print_rows(body: &[u8], table: &[u64], count: usize, out: &mut Lines) -> bool
+    requires { length body.now ≤ 65600 }
 {
-    let mut row = 0;
-    while row < count {
+    for row in 0..count {
         let k = row_line(body, table, row, out);
         if !print(out, k) {
             return false;
         }
-        row += 1;
     }
     true
 }
 
 // Kind 1: prints the line of record n, and those of the body's records. Answers whether to go on.
-fn reply_decode(n: u64, dialect: Dialect, body: &[u8], table: &mut [u64], out: &mut [u8]) -> bool
-    requires body_len_bound { length body.now ≤ 65600 }
-    requires in_bounds { 787456 ≤ length out.old }
+fn reply_decode(n: u64, dialect: Dialect, body: &[u8], table: &mut Table, out: &mut Lines) -> bool
+    requires { length body.now ≤ 65600 }
 {
     let d = message::decode(dialect, body, table);
     let t = told_decoded(d);
@@ -224,9 +217,8 @@ fn reply_decode(n: u64, dialect: Dialect, body: &[u8], table: &mut [u64], out: &
 }
 
 // Kind 2.
-fn reply_encode(n: u64, dialect: Dialect, body: &[u8], made: &mut [u8], out: &mut [u8]) -> bool
-    requires made_len_bound { length made.old ≤ 65600 }
-    requires in_bounds { 787456 ≤ length out.old }
+fn reply_encode(n: u64, dialect: Dialect, body: &[u8], made: &mut [u8], out: &mut Lines) -> bool
+    requires { length made.old ≤ 65600 }
 {
     let e = encode::encode(dialect, body, made);
     let k = encode_line(n, made, told_encoded(e), out);
@@ -234,9 +226,8 @@ fn reply_encode(n: u64, dialect: Dialect, body: &[u8], made: &mut [u8], out: &mu
 }
 
 // Kind 3: the index, and then the body.
-fn reply_sign(n: u64, dialect: Dialect, content: &[u8], made: &mut [u8], out: &mut [u8]) -> bool
-    requires made_len_bound { length made.old ≤ 65600 }
-    requires in_bounds { 787456 ≤ length out.old }
+fn reply_sign(n: u64, dialect: Dialect, content: &[u8], made: &mut [u8], out: &mut Lines) -> bool
+    requires { length made.old ≤ 65600 }
 {
     if content.len() < 2 {
         return last(b"bad\n");
@@ -248,9 +239,8 @@ fn reply_sign(n: u64, dialect: Dialect, content: &[u8], made: &mut [u8], out: &m
 }
 
 // Kind 4: the index, and then the body.
-fn reply_id(n: u64, dialect: Dialect, content: &[u8], made: &mut [u8], out: &mut [u8]) -> bool
-    requires made_len_bound { length made.old ≤ 65600 }
-    requires in_bounds { 787456 ≤ length out.old }
+fn reply_id(n: u64, dialect: Dialect, content: &[u8], made: &mut [u8], out: &mut Lines) -> bool
+    requires { length made.old ≤ 65600 }
 {
     if content.len() < 2 {
         return last(b"bad\n");
@@ -267,18 +257,16 @@ fn reply_body(
     kind: u64,
     dialect: Dialect,
     content: &[u8],
-    table: &mut [u64],
-    made: &mut [u8],
-    out: &mut [u8],
+    table: &mut Table,
+    made: &mut Made,
+    out: &mut Lines,
 ) -> bool
-    requires content_len_bound { length content.now ≤ 65600 }
-    requires in_bounds { 65600 ≤ length made.old }
-    requires in_bounds_2 { 787456 ≤ length out.old }
+    requires { length content.now ≤ 65600 }
 {
     match kind {
         1 => reply_decode(n, dialect, content, table, out),
         2 => reply_encode(n, dialect, content, &mut made[..65536], out),
-        3 => reply_sign(n, dialect, content, &mut made[..65600], out),
+        3 => reply_sign(n, dialect, content, made, out),
         _ => reply_id(n, dialect, content, &mut made[..65536], out),
     }
 }
@@ -288,13 +276,11 @@ fn reply_spoken(
     n: u64,
     kind: u64,
     content: &[u8],
-    table: &mut [u64],
-    made: &mut [u8],
-    out: &mut [u8],
+    table: &mut Table,
+    made: &mut Made,
+    out: &mut Lines,
 ) -> bool
-    requires content_len_bound { length content.now ≤ 65600 }
-    requires in_bounds { 65600 ≤ length made.old }
-    requires in_bounds_2 { 787456 ≤ length out.old }
+    requires { length content.now ≤ 65600 }
 {
     if content.len() < 1 {
         return last(b"bad\n");
@@ -308,9 +294,8 @@ fn reply_spoken(
 }
 
 // The line of an RPC that is written from lists, in all of `made`. Each message must be signed.
-fn write_lists(n: u64, records: &[u64], bytes: &[u8], made: &mut [u8], out: &mut [u8]) -> bool
-    requires made_len_bound { length made.old ≤ 65600 }
-    requires in_bounds { 787456 ≤ length out.old }
+fn write_lists(n: u64, records: &[u64], bytes: &[u8], made: &mut [u8], out: &mut Lines) -> bool
+    requires { length made.old ≤ 65600 }
 {
     let r = write_rpc(records, bytes, 0, made);
     let k = write_line(n, made, told_composed(r), out);
@@ -318,23 +303,19 @@ fn write_lists(n: u64, records: &[u64], bytes: &[u8], made: &mut [u8], out: &mut
 }
 
 // Kind 10: as many bytes of the buffer are lent as the room says.
-fn reply_write(n: u64, content: &[u8], table: &mut [u64], made: &mut [u8], out: &mut [u8]) -> bool
-    requires content_len_bound { length content.now ≤ 65600 }
-    requires in_bounds { 12800 ≤ length table.old }
-    requires in_bounds_2 { 65600 ≤ length made.old }
-    requires in_bounds_3 { 787456 ≤ length out.old }
+fn reply_write(n: u64, content: &[u8], table: &mut Table, made: &mut Made, out: &mut Lines) -> bool
+    requires { length content.now ≤ 65600 }
 {
-    let given = read_lists(content, table);
-    match given {
-        Lent::Bad => last(b"bad\n"),
-        Lent::Lists { room, words, start } => write_lists(
-            n,
-            &table[..words],
-            &content[start..],
-            &mut made[..room],
-            out,
-        ),
-    }
+    let Some(lent) = read_lists(content, table) else {
+        return last(b"bad\n");
+    };
+    write_lists(
+        n,
+        &table[..lent.words],
+        &content[lent.start..],
+        &mut made[..lent.room],
+        out,
+    )
 }
 
 // The line of the bytes to sign of a message of lists, in all of `made`.
@@ -344,10 +325,9 @@ fn sign_lists(
     bytes: &[u8],
     index: usize,
     made: &mut [u8],
-    out: &mut [u8],
+    out: &mut Lines,
 ) -> bool
-    requires made_len_bound { length made.old ≤ 65600 }
-    requires in_bounds { 787456 ≤ length out.old }
+    requires { length made.old ≤ 65600 }
 {
     let r = sign_fields(records, bytes, index, made);
     let k = tosign_line(n, made, told_composed(r), out);
@@ -359,27 +339,23 @@ fn reply_tosign(
     n: u64,
     index: usize,
     content: &[u8],
-    table: &mut [u64],
-    made: &mut [u8],
-    out: &mut [u8],
+    table: &mut Table,
+    made: &mut Made,
+    out: &mut Lines,
 ) -> bool
-    requires content_len_bound { length content.now ≤ 65600 }
-    requires in_bounds { 12800 ≤ length table.old }
-    requires in_bounds_2 { 65600 ≤ length made.old }
-    requires in_bounds_3 { 787456 ≤ length out.old }
+    requires { length content.now ≤ 65600 }
 {
-    let given = read_lists(content, table);
-    match given {
-        Lent::Bad => last(b"bad\n"),
-        Lent::Lists { room, words, start } => sign_lists(
-            n,
-            &table[..words],
-            &content[start..],
-            index,
-            &mut made[..room],
-            out,
-        ),
-    }
+    let Some(lent) = read_lists(content, table) else {
+        return last(b"bad\n");
+    };
+    sign_lists(
+        n,
+        &table[..lent.words],
+        &content[lent.start..],
+        index,
+        &mut made[..lent.room],
+        out,
+    )
 }
 
 // The kinds that take lists. Kind 11: the index, and then as kind 10.
@@ -387,14 +363,11 @@ fn reply_lists(
     n: u64,
     kind: u64,
     content: &[u8],
-    table: &mut [u64],
-    made: &mut [u8],
-    out: &mut [u8],
+    table: &mut Table,
+    made: &mut Made,
+    out: &mut Lines,
 ) -> bool
-    requires content_len_bound { length content.now ≤ 65600 }
-    requires in_bounds { 12800 ≤ length table.old }
-    requires in_bounds_2 { 65600 ≤ length made.old }
-    requires in_bounds_3 { 787456 ≤ length out.old }
+    requires { length content.now ≤ 65600 }
 {
     if kind == 10 {
         return reply_write(n, content, table, made, out);
@@ -407,9 +380,8 @@ fn reply_lists(
 }
 
 // Kinds 5 to 9, and 25.
-fn reply_line(n: u64, kind: u64, content: &[u8], out: &mut [u8]) -> bool
-    requires content_len_bound { length content.now ≤ 65600 }
-    requires in_bounds { 787456 ≤ length out.old }
+fn reply_line(n: u64, kind: u64, content: &[u8], out: &mut Lines) -> bool
+    requires { length content.now ≤ 65600 }
 {
     if has_answer(kind, content) {
         let k = line(n, kind, content, out);
@@ -423,16 +395,12 @@ fn reply(
     n: u64,
     kind: u64,
     len: usize,
-    content: &mut [u8],
-    table: &mut [u64],
-    made: &mut [u8],
-    out: &mut [u8],
+    content: &mut Content,
+    table: &mut Table,
+    made: &mut Made,
+    out: &mut Lines,
 ) -> bool
-    requires len_in_bounds { len ≤ length content.old }
-    requires len_bound { len ≤ 65600 }
-    requires in_bounds { 12800 ≤ length table.old }
-    requires in_bounds_2 { 65600 ≤ length made.old }
-    requires in_bounds_3 { 787456 ≤ length out.old }
+    requires { len ≤ 65600 }
 {
     let got = io::read_full(0, &mut content[..len]);
     if got < len {
@@ -447,18 +415,18 @@ fn reply(
 }
 
 // Reads a record and prints its line, or the word that ends the run. Answers whether to go on.
-fn turn(n: u64, content: &mut [u8], table: &mut [u64], made: &mut [u8], out: &mut [u8]) -> bool
-    requires in_bounds { 65600 ≤ length content.old }
-    requires in_bounds_2 { 12800 ≤ length table.old }
-    requires in_bounds_3 { 65600 ≤ length made.old }
-    requires in_bounds_4 { 787456 ≤ length out.old }
-{
-    let h = next_header(65600);
-    match h {
-        Header::End => false,
-        Header::Bad => last(b"bad\n"),
-        Header::Long => last(b"long\n"),
-        Header::Record { kind, len } => reply(n, kind, len, content, table, made, out),
+fn turn(
+    n: u64,
+    content: &mut Content,
+    table: &mut Table,
+    made: &mut Made,
+    out: &mut Lines,
+) -> bool {
+    match next_header(65600) {
+        Ok(None) => false,
+        Err(HeaderError::Bad) => last(b"bad\n"),
+        Err(HeaderError::Long) => last(b"long\n"),
+        Ok(Some(Header { kind, len })) => reply(n, kind, len, content, table, made, out),
     }
 }
 
@@ -468,8 +436,9 @@ fn main() {
     let mut table = [0u64; 12800];
     let mut made = [0u8; 65600];
     let mut out = [0u8; 787456];
-    let mut n: u64 = 1;
-    while n < u64::MAX && turn(n, &mut content, &mut table, &mut made, &mut out) {
-        n += 1;
+    for n in 1..u64::MAX {
+        if !turn(n, &mut content, &mut table, &mut made, &mut out) {
+            break;
+        }
     }
 }

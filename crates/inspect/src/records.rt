@@ -8,7 +8,7 @@ ghost use Rattle.inspect.specs.Records.{bytes_text, place_text, count_text, flag
 
 use basis::Told;
 use lines::{end_line, put_value, put_word, refusal_line, start_line};
-use message::{Record, RecordAt};
+use message::Record;
 use schema::{Kind, Number, Place, Slots};
 
 // A blank, `=` and hex.
@@ -185,10 +185,9 @@ pub(crate) fn row_line(body: &[u8], table: &[u64], row: usize, out: &mut [u8]) -
     requires in_bounds { 787456 ≤ length out.old }
     ensures { Wrote 787456 (row_line body.now (record_at table.now row)) out.old 0 out.new result }
 {
-    let at = message::record_at(table, row);
-    match at {
-        RecordAt::Nothing => 0,
-        RecordAt::Record(found) => record_line(body, found, out),
+    match message::record_at(table, row) {
+        None => 0,
+        Some(found) => record_line(body, found, out),
     }
 }
 

@@ -6,8 +6,8 @@ ghost use Rattle.inspect.specs.Records.{bytes_text};
 ghost use Rattle.inspect.specs.Senders.{key_text, peer_id_text, key_answer, peer_answer};
 
 use super::records::put_bytes;
-use key::PublicKey;
 use key::told::{code_of, told_key};
+use key::{PublicKey, PublicKeyError};
 use lines::{put_refusal, put_value, put_word};
 use peer_id::told::told_peer_id;
 use peer_id::{DIGEST_START, PeerId};
@@ -25,17 +25,17 @@ fn put_rest(out: &mut [u8], at: usize, s: &[u8], start: usize) -> usize
 }
 
 // The key that s was decoded as: its type and its data.
-fn put_key(out: &mut [u8], at: usize, s: &[u8], key: PublicKey) -> usize
+fn put_key(out: &mut [u8], at: usize, s: &[u8], key: Result<PublicKey, PublicKeyError>) -> usize
     requires s_len_bound { length s.now ≤ 65600 }
     requires at_in_bounds { at + 131223 ≤ length out.old }
     ensures { Puts 131223 (key_text s.now key) out.old at out.new result }
 {
     match key {
-        PublicKey::Key { key_type, start } => {
-            let i = put_value(out, at, code_of(key_type));
-            put_rest(out, i, s, start)
+        Ok(found) => {
+            let i = put_value(out, at, code_of(found.key_type));
+            put_rest(out, i, s, found.start)
         }
-        PublicKey::Refused(_) => put_refusal(out, at, told_key(key)),
+        Err(_) => put_refusal(out, at, told_key(key)),
     }
 }
 
@@ -50,15 +50,15 @@ fn put_digest(out: &mut [u8], at: usize, word: &[u8], s: &[u8]) -> usize
 }
 
 // The peer id that s was read as.
-fn put_peer_id(out: &mut [u8], at: usize, s: &[u8], peer: PeerId) -> usize
+fn put_peer_id(out: &mut [u8], at: usize, s: &[u8], peer: Option<PeerId>) -> usize
     requires s_len_bound { length s.now ≤ 65600 }
     requires at_in_bounds { at + 131211 ≤ length out.old }
     ensures { Puts 131211 (peer_id_text s.now peer) out.old at out.new result }
 {
     match peer {
-        PeerId::Identity => put_digest(out, at, b" identity", s),
-        PeerId::Sha256 => put_digest(out, at, b" sha256", s),
-        PeerId::NotPeerId => put_refusal(out, at, told_peer_id(peer)),
+        Some(PeerId::Identity) => put_digest(out, at, b" identity", s),
+        Some(PeerId::Sha256) => put_digest(out, at, b" sha256", s),
+        None => put_refusal(out, at, told_peer_id(peer)),
     }
 }
 

@@ -1,82 +1,86 @@
--- Which case it is: of a type, of a total, of the second field and of the first.
+-- Which case it is: of a tag, of the second field and of the first, and of a type.
 use Prim.Native.Nat.{ℕ, ◌+◌, ◌-◌, ◌≤◌, ◌<◌}
-use mathlib.Core.Path.{◌≡◌, sym, ap, ◌∙◌}
+use mathlib.Core.Path.{◌≡◌, ap, ◌∙◌}
 use mathlib.Core.List.{List}
-use mathlib.Core.Logic.{◌≢◌}
+use mathlib.Core.Bool.{true, false}
 use native.Mathlib.Omega.{arith}
 use lib.ListN.{length, take, drop, get_or, length-drop}
+use lib.Dec.{ltb, leb, eqb}
 use lib.Seq.{take_all}
-use borrow.Author.Tests.{eq-eqb, ne_eqb, lt-ltb, le-ltb, le-leb, lt-leb}
-use Rattle.peer_id.specs.declared.Uvarint.{Uvarint}
-use Rattle.peer_id.specs.declared.Uvarint.TheVariants as uvarint
+use borrow.Author.Tests.{eq-eqb, eqb-true, leb-false, lt-leb}
+use Rattle.std.specs.Prelude.{Result, Ok, Err}
+use Rattle.basis.specs.Cases.{either, clash, of-ok}
 use Rattle.peer_id.specs.Uvarint.{read_uvarint}
 use Rattle.peer_id.specs.Laws.{used}
 use Rattle.key.specs.declared.KeyType.{KeyType}
-use Rattle.key.specs.declared.KeyType.TheVariants.{Ecdsa}
-use Rattle.key.specs.declared.Found.TheVariants.{Byte, Nothing}
-use Rattle.key.specs.declared.PublicKeyError.TheVariants.{EmptyInput, InvalidFieldTag, LengthOverflow, InvalidLength}
-use Rattle.key.specs.declared.PublicKey.{PublicKey}
-use Rattle.key.specs.declared.PublicKey.TheVariants.{Key, Refused}
-use Rattle.key.specs.Decode.{type_of, on_total, on_size, on_data, on_type, decode_protobuf}
+use Rattle.key.specs.declared.PublicKeyError.TheVariants.{EmptyInput}
+use Rattle.key.specs.declared.PublicKeyError.{PublicKeyError}
+use Rattle.peer_id.specs.declared.VarintError.{VarintError}
+use Rattle.key.specs.Decode.{known, on_tag, on_size, on_data, on_type, decode_protobuf}
 
--- ---- the type
-pub type_rest : (n : ℕ) → n ≢ 0 → n ≢ 1 → n ≢ 2 → Ecdsa ≡ type_of n
-unfolding type_of
-type_rest n a b c = simp (ne_eqb n 0 a, ne_eqb n 1 b, ne_eqb n 2 c)
+-- ---- a tag: it stands there, or whatever follows is refused
+abbrev tagged : List ℕ → ℕ → ℕ → Result (Unit {0}) PublicKeyError
+tagged s at tag = on_tag s at tag (Ok tt)
 
--- ---- the total
-module _ (len : ℕ) (t : KeyType) (start size : ℕ) where
-  pub total_over : 18446744073709551615 < start + size → Refused LengthOverflow ≡ on_total len t start size
-  unfolding on_total
-  total_over h = simp (lt-ltb 18446744073709551615 (start + size) h)
+pub tag_there : (s : List ℕ) (at tag : ℕ) → Ok tt ≡ tagged s at tag → (at < length s) × (get_or s at 0 ≡ tag)
+tag_there s at tag h =
+    either (leb (length s) at) (λ x. clash (let k = simp x at h in cc))
+    (λ x. either (eqb (get_or s at 0) tag) (λ y. (leb-false (length s) at x, eqb-true (get_or s at 0) tag y))
+    (λ y. clash (let k = simp (x, y) at h in cc)))
 
-  pub total_other : start + size ≤ 18446744073709551615 → start + size ≢ len
-      → Refused (InvalidLength (start + size) len) ≡ on_total len t start size
-  unfolding on_total
-  total_other h k = simp (le-ltb 18446744073709551615 (start + size) h, ne_eqb (start + size) len k)
-
-  pub total-same : start + size ≤ 18446744073709551615 → start + size ≡ len → Key t start ≡ on_total len t start size
-  unfolding on_total
-  total-same h k = simp (le-ltb 18446744073709551615 (start + size) h, eq-eqb (start + size) len k)
+pub tag_else : {A : Type 0} (s : List ℕ) (at tag : ℕ) (why : PublicKeyError) (r : Result A PublicKeyError)
+    → Err why ≡ tagged s at tag → Err why ≡ on_tag s at tag r
+tag_else s at tag why r h =
+    either (leb (length s) at) (λ x. simp x (ap Err (let k = simp x at h in cc)))
+    (λ x. either (eqb (get_or s at 0) tag) (λ y. clash (let k = simp (x, y) at h in cc))
+    (λ y. simp (x, y) (ap Err (let k = simp (x, y) at h in cc))))
 
 -- ---- a varint in the rest of the input
 rest_of : (s : List ℕ) (at : ℕ) → take (length s - at) (drop at s) ≡ drop at s
 rest_of s at = take_all (length s - at) (drop at s) (rw (length-drop at s) (omega arith))
 
-pub read-rest : (s : List ℕ) (at : ℕ) (u v : Uvarint) → u ≡ read_uvarint (take (length s - at) (drop at s)) → u ≡ v
-    → v ≡ read_uvarint (drop at s)
-read-rest s at u v e h = sym h ∙ e ∙ ap read_uvarint (rest_of s at)
-
-pub read-within : (s : List ℕ) (at v n : ℕ) → uvarint.Value v n ≡ read_uvarint (drop at s) → at + n ≤ length s
-read-within s at v n e = (used s at v n e).1
+pub read-within : (s : List ℕ) (at v n : ℕ) → Ok (v, n) ≡ read_uvarint (take (length s - at) (drop at s))
+    → at + n ≤ length s
+read-within s at v n e = (used s at v n (e ∙ ap read_uvarint (rest_of s at))).1
 
 -- ---- the second field
 module _ (s : List ℕ) (t : KeyType) (at : ℕ) where
-  pub data_none : length s ≤ at → Refused (InvalidFieldTag 0x12 Nothing) ≡ on_data s t at
+  pub data_tag : (why : PublicKeyError) → Err why ≡ tagged s at 0x12 → Err why ≡ on_data s t at
   unfolding on_data
-  data_none h = simp (le-leb (length s) at h)
+  data_tag why h = tag_else s at 0x12 why _ h
 
-  pub data_other : at < length s → get_or s at 0 ≢ 0x12 → Refused (InvalidFieldTag 0x12 (Byte (get_or s at 0))) ≡ on_data s t at
+  pub data_read : (u : Result (ℕ × ℕ) VarintError) → Ok tt ≡ tagged s at 0x12
+      → u ≡ read_uvarint (take (length s - (at + 1)) (drop (at + 1) s)) → on_size (length s) t (at + 1) u ≡ on_data s t at
   unfolding on_data
-  data_other h k = simp (lt-leb (length s) at h, ne_eqb (get_or s at 0) 0x12 k)
-
-  pub data_read : (u : Uvarint) (r : PublicKey) → at < length s → get_or s at 0 ≡ 0x12 → u ≡ read_uvarint (drop (at + 1) s)
-      → r ≡ on_size (length s) t (at + 1) u → r ≡ on_data s t at
-  unfolding on_data
-  data_read u r h k e g =
-      g ∙ ap (on_size (length s) t (at + 1)) e ∙ simp (lt-leb (length s) at h, eq-eqb (get_or s at 0) 0x12 k)
+  data_read u h e =
+      let k = tag_there s at 0x12 h in
+      ap (on_size (length s) t (at + 1)) (e ∙ ap read_uvarint (rest_of s (at + 1)))
+      ∙ simp (lt-leb (length s) at k.0, eq-eqb (get_or s at 0) 0x12 k.1)
 
 -- ---- the first field
-module _ (s : List ℕ) where
-  pub key-none : length s ≡ 0 → Refused EmptyInput ≡ decode_protobuf s
-  unfolding decode_protobuf
-  key-none h = simp (eq-eqb (length s) 0 h)
+pub key_none : (s : List ℕ) → eqb (length s) 0 ≡ true → Err EmptyInput ≡ decode_protobuf s
+unfolding decode_protobuf
+key_none s h = simp h
 
-  pub key_other : length s ≢ 0 → get_or s 0 0 ≢ 0x08 → Refused (InvalidFieldTag 0x08 (Byte (get_or s 0 0))) ≡ decode_protobuf s
+module _ (s : List ℕ) (z : eqb (length s) 0 ≡ false) where
+  pub key_tag : (why : PublicKeyError) → Err why ≡ tagged s 0 0x08 → Err why ≡ decode_protobuf s
   unfolding decode_protobuf
-  key_other h k = simp (ne_eqb (length s) 0 h, ne_eqb (get_or s 0 0) 0x08 k)
+  key_tag why h = simp z (tag_else s 0 0x08 why _ h)
 
-  pub key-read : (u : Uvarint) (r : PublicKey) → length s ≢ 0 → get_or s 0 0 ≡ 0x08 → u ≡ read_uvarint (drop 1 s) → r ≡ on_type s u
-      → r ≡ decode_protobuf s
+  pub key-read : (u : Result (ℕ × ℕ) VarintError) → Ok tt ≡ tagged s 0 0x08
+      → u ≡ read_uvarint (take (length s - 1) (drop 1 s)) → on_type s u ≡ decode_protobuf s
   unfolding decode_protobuf
-  key-read u r h k e g = g ∙ ap (on_type s) e ∙ simp (ne_eqb (length s) 0 h, eq-eqb (get_or s 0 0) 0x08 k)
+  key-read u h e =
+      let k = tag_there s 0 0x08 h in
+      ap (on_type s) (e ∙ ap read_uvarint (rest_of s 1))
+      ∙ simp (z, lt-leb (length s) 0 k.0, eq-eqb (get_or s 0 0) 0x08 k.1)
+
+-- ---- the number of a type
+pub known-else : (s : List ℕ) (n used : ℕ) (why : PublicKeyError) → Err why ≡ known n → Err why ≡ on_type s (Ok (n, used))
+known-else s n used why h =
+    either (ltb 3 n) (λ x. simp x (ap Err (let k = simp x at h in cc))) (λ x. clash (let k = simp x at h in cc))
+
+pub known-then : (s : List ℕ) (n used : ℕ) (t : KeyType) → Ok t ≡ known n → on_data s t (1 + used) ≡ on_type s (Ok (n, used))
+known-then s n used t h =
+    either (ltb 3 n) (λ x. clash (let k = simp x at h in cc))
+    (λ x. simp x (ap (λ (k : KeyType). on_data s k (1 + used)) (of-ok (simp x at h))))

@@ -1,16 +1,14 @@
 -- Bytes are decoded as a key exactly where they are one by the document; and no bytes are two keys.
-use Rattle.std.specs.Prelude.{ℕ, ◌+◌, ◌^◌, ◌≤◌, ◌<◌, ◌≡◌, ◌↔◌, ◌≢◌, eqb, ltb, leb}
+use Rattle.std.specs.Prelude.{Result, Ok, Err, ℕ, ◌+◌, ◌^◌, ◌≤◌, ◌<◌, ◌≡◌, ◌↔◌, ◌≢◌, eqb, ltb, leb}
 use Rattle.std.proofs.Math.Path.{refl, sym, ap, ap₂}
 use Rattle.std.proofs.Common.{subst, ◌∙◌, arith}
 use mathlib.Core.List.{List, ◌∷◌, ◌++◌}
 use Rattle.std.proofs.Math.ListN.{length, drop, get_or, length-drop, length-append}
 use Rattle.std.proofs.Math.Seq.{drop-cons, drop-drop, drop_at}
 use borrow.Author.Tests.{eqb-true, eqb-false, ltb-false, leb-false, eq-eqb, ne_eqb, le-ltb, lt-leb}
-use Rattle.basis.specs.Cases.{either, clash}
+use Rattle.basis.specs.Cases.{either, clash, of-ok}
 use Rattle.basis.specs.Bytes.{Bytes}
 use Rattle.basis.specs.Lists.{drop-bytes}
-use Rattle.peer_id.specs.declared.Uvarint.{Uvarint}
-use Rattle.peer_id.specs.declared.Uvarint.TheVariants as uvarint
 use Rattle.peer_id.specs.Uvarint.{uvarint, read_uvarint}
 use Rattle.peer_id.specs.Laws.{uvarint-small, uvarint-some, read-written, accepted}
 use Rattle.protobuf.specs.Encode.{tag, varint_field, bytes_field}
@@ -18,9 +16,9 @@ use Rattle.key.specs.declared.KeyType.{KeyType}
 use Rattle.key.specs.declared.KeyType.TheVariants.{Rsa, Ed25519, Secp256k1, Ecdsa}
 use Rattle.key.specs.declared.PublicKeyError.{PublicKeyError}
 use Rattle.key.specs.declared.PublicKey.{PublicKey}
-use Rattle.key.specs.declared.PublicKey.TheVariants.{Key, Refused}
+use Rattle.peer_id.specs.declared.VarintError.{VarintError}
 use Rattle.key.specs.Key.{code_of, key_bytes, IsKey, key}
-use Rattle.key.specs.Decode.{type_of, on_total, on_size, on_data, on_type, decode_protobuf}
+use Rattle.key.specs.Decode.{type_of, found, on_total, on_size, on_data, on_type, decode_protobuf}
 
 -- ---- the bytes of a key are the protobuf fields 1, a number, and 2, bytes
 code-small : (t : KeyType) → code_of t ≤ 3
@@ -55,32 +53,34 @@ code_type n h =
     (λ c. simp (a, b, c) (let x = eqb-false n 0 a in let y = eqb-false n 1 b in let z = eqb-false n 2 c in omega arith))))
 
 -- ---- what is decoded: the tests that led there
-of-total : (len : ℕ) (t u : KeyType) (start size a : ℕ) → on_total len t start size ≡ Key u a
+of_found : {t u : KeyType} {a b : ℕ} → found t a ≡ found u b → (t ≡ u) × (a ≡ b)
+of_found e = let p = of-ok e in (ap (λ (k : PublicKey). k.key_type) p, ap (λ (k : PublicKey). k.start) p)
+
+of-total : (len : ℕ) (t u : KeyType) (start size a : ℕ) → on_total len t start size ≡ found u a
     → (t ≡ u) × (start ≡ a) × (start + size ≡ len)
 unfolding on_total
 of-total len t u start size a h =
     either (ltb 18446744073709551615 (start + size)) (λ x. clash (let k = simp x at h in cc))
     (λ x. either (eqb (start + size) len)
-    (λ y. let k = simp (x, y) at h in let p : t ≡ u = cc in let q : start ≡ a = cc in
-    (p, q, eqb-true (start + size) len y))
+    (λ y. let k = of_found (simp (x, y) at h) in (k.0, k.1, eqb-true (start + size) len y))
     (λ y. clash (let k = simp (x, y) at h in cc)))
 
 -- a number stands at `next`, and just so many bytes follow it, from a on
 record Sized (s : List ℕ) (next a : ℕ) : Type 0 where
   size : ℕ
   used : ℕ
-  read : read_uvarint (drop next s) ≡ uvarint.Value size used
+  read : read_uvarint (drop next s) ≡ Ok (size, used)
   start : next + used ≡ a
   total : next + used + size ≡ length s
 
-of_size : (s : List ℕ) (t u : KeyType) (next a : ℕ) (v : Uvarint) → read_uvarint (drop next s) ≡ v
-    → on_size (length s) t next v ≡ Key u a → (t ≡ u) × Sized s next a
-of_size s t u next a (uvarint.Refused why) e h = clash (cc)
-of_size s t u next a (uvarint.Value size used) e h =
+of_size : (s : List ℕ) (t u : KeyType) (next a : ℕ) (v : Result (ℕ × ℕ) VarintError) → read_uvarint (drop next s) ≡ v
+    → on_size (length s) t next v ≡ found u a → (t ≡ u) × Sized s next a
+of_size s t u next a (Err why) e h = clash (cc)
+of_size s t u next a (Ok (size, used)) e h =
     let k = of-total (length s) t u (next + used) size a h in
     (k.0, record { size = size; used = used; read = e; start = k.1; total = k.2 })
 
-of_data : (s : List ℕ) (t u : KeyType) (at a : ℕ) → on_data s t at ≡ Key u a
+of_data : (s : List ℕ) (t u : KeyType) (at a : ℕ) → on_data s t at ≡ found u a
     → (at < length s) × (get_or s at 0 ≡ 0x12) × (t ≡ u) × Sized s (at + 1) a
 unfolding on_data
 of_data s t u at a h =
@@ -94,30 +94,28 @@ record Typed (s : List ℕ) (u : KeyType) (a : ℕ) : Type 0 where
   code : ℕ
   used : ℕ
   few : code ≤ 3
-  read : read_uvarint (drop 1 s) ≡ uvarint.Value code used
-  rest : on_data s (type_of code) (1 + used) ≡ Key u a
+  read : read_uvarint (drop 1 s) ≡ Ok (code, used)
+  rest : on_data s (type_of code) (1 + used) ≡ found u a
 
-of_type : (s : List ℕ) (u : KeyType) (a : ℕ) (v : Uvarint) → read_uvarint (drop 1 s) ≡ v → on_type s v ≡ Key u a → Typed s u a
-of_type s u a (uvarint.Refused why) e h = clash (cc)
-of_type s u a (uvarint.Value n used) e h =
+of_type : (s : List ℕ) (u : KeyType) (a : ℕ) (v : Result (ℕ × ℕ) VarintError) → read_uvarint (drop 1 s) ≡ v
+    → on_type s v ≡ found u a → Typed s u a
+of_type s u a (Err why) e h = clash (cc)
+of_type s u a (Ok (n, used)) e h =
     either (ltb 3 n) (λ x. clash (let k = simp x at h in cc))
     (λ x. record { code = n; used = used; few = ltb-false 3 n x; read = e; rest = simp x at h })
 
-of-key : (s : List ℕ) (u : KeyType) (a : ℕ) → decode_protobuf s ≡ Key u a
+of-key : (s : List ℕ) (u : KeyType) (a : ℕ) → decode_protobuf s ≡ found u a
     → (length s ≢ 0) × (get_or s 0 0 ≡ 0x08) × Typed s u a
 unfolding decode_protobuf
 of-key s u a h =
     either (eqb (length s) 0) (λ x. clash (let k = simp x at h in cc))
-    (λ x. either (eqb (get_or s 0 0) 0x08)
-    (λ y. (
-      eqb-false (length s) 0 x,
-      eqb-true (get_or s 0 0) 0x08 y,
-      of_type s u a (read_uvarint (drop 1 s)) refl (simp (x, y) at h),
-    ))
-    (λ y. clash (let k = simp (x, y) at h in cc)))
+    (λ x. let z = eqb-false (length s) 0 x in
+    let l = lt-leb (length s) 0 (omega arith) in either (eqb (get_or s 0 0) 0x08)
+    (λ y. (z, eqb-true (get_or s 0 0) 0x08 y, of_type s u a (read_uvarint (drop 1 s)) refl (simp (x, l, y) at h)))
+    (λ y. clash (let k = simp (x, l, y) at h in cc)))
 
 -- ---- so the bytes are a key's
-module _ (s : List ℕ) (u : KeyType) (a : ℕ) (b : Bytes s) (h : decode_protobuf s ≡ Key u a) where
+module _ (s : List ℕ) (u : KeyType) (a : ℕ) (b : Bytes s) (h : decode_protobuf s ≡ found u a) where
   made : s ≡ key_bytes u (drop a s)
   unfolding key_bytes
   made =
@@ -126,7 +124,7 @@ module _ (s : List ℕ) (u : KeyType) (a : ℕ) (b : Bytes s) (h : decode_protob
       let f = accepted (drop 1 s) t.code t.used (drop-bytes 1 s b) t.read in
       let n = uvarint-small t.code (omega (arith, t.few)) in
       let one : t.used ≡ 1 = f.size ∙ ap length n in
-      let r : on_data s (type_of t.code) 2 ≡ Key u a = rw one at t.rest in
+      let r : on_data s (type_of t.code) 2 ≡ found u a = rw one at t.rest in
       let d = of_data s (type_of t.code) u 2 a r in
       let z = d.3 in
       let g = accepted (drop 3 s) z.size z.used (drop-bytes 3 s b) z.read in
@@ -154,13 +152,13 @@ module _ (t : KeyType) (d : List ℕ) (h : length (key_bytes t d) < 2 ^ 64) wher
   unfolding key_bytes sized
   whole = simp (length-append (uvarint (length d)) d) (omega arith)
 
-  read-code : read_uvarint (code_of t ∷ 0x12 ∷ (uvarint (length d) ++ d)) ≡ uvarint.Value (code_of t) 1
+  read-code : read_uvarint (code_of t ∷ 0x12 ∷ (uvarint (length d) ++ d)) ≡ Ok (code_of t, 1)
   read-code =
       let c = code-small t in
       let n = uvarint-small (code_of t) (omega arith) in
       rw n at (read-written (code_of t) (0x12 ∷ (uvarint (length d) ++ d)) (omega arith))
 
-  second : on_data (key_bytes t d) t 2 ≡ Key t (3 + sized)
+  second : on_data (key_bytes t d) t 2 ≡ found t (3 + sized)
   unfolding on_data on_total sized key_bytes
   second =
       let w = whole in
@@ -173,12 +171,13 @@ module _ (t : KeyType) (d : List ℕ) (h : length (key_bytes t d) < 2 ^ 64) wher
         eq-eqb (3 + sized + length d) (length (key_bytes t d)) (sym w),
       )
 
-  decoded : decode_protobuf (key_bytes t d) ≡ Key t (3 + sized)
+  decoded : decode_protobuf (key_bytes t d) ≡ found t (3 + sized)
   unfolding decode_protobuf key_bytes
   decoded =
       let w = whole in
       simp (
         ne_eqb (length (key_bytes t d)) 0 (λ z. absurd (omega arith)),
+        lt-leb (length (key_bytes t d)) 0 (omega arith),
         read-code,
         le-ltb 3 (code_of t) (code-small t),
         type_code t,
@@ -187,11 +186,13 @@ module _ (t : KeyType) (d : List ℕ) (h : length (key_bytes t d) < 2 ^ 64) wher
 
   rest : drop (3 + sized) (key_bytes t d) ≡ d
   unfolding key_bytes sized
-  rest = sym (drop-drop (length (uvarint (length d))) 3 (key_bytes t d)) ∙ drop_at (uvarint (length d)) d (length (uvarint (length d))) refl
+  rest =
+      let n = length (uvarint (length d)) in
+      sym (drop-drop n 3 (key_bytes t d)) ∙ drop_at (uvarint (length d)) d n refl
 
 -- some bytes of a machine are decoded as a key of this type, with these data, exactly where they are that key
 pub key-exactly : (s : List ℕ) (t : KeyType) (d : List ℕ) → Bytes s → length s < 2 ^ 64
-    → ((a : ℕ) × (decode_protobuf s ≡ Key t a) × (drop a s ≡ d)) ↔ IsKey s t d
+    → ((a : ℕ) × (decode_protobuf s ≡ found t a) × (drop a s ≡ d)) ↔ IsKey s t d
 key-exactly s t d b l = (
   λ x. subst (IsKey s t) x.2 (subst (λ (k : List ℕ). IsKey k t (drop x.0 s)) (sym (made s t x.0 b x.1))
       (key t (drop x.0 s))),
@@ -199,27 +200,27 @@ key-exactly s t d b l = (
 )
   where
     is-decoded : {s d : List ℕ} {t : KeyType} → IsKey s t d → length s < 2 ^ 64
-        → (a : ℕ) × (decode_protobuf s ≡ Key t a) × (drop a s ≡ d)
+        → (a : ℕ) × (decode_protobuf s ≡ found t a) × (drop a s ≡ d)
     is-decoded (key t d) l = (3 + sized t d l, decoded t d l, rest t d l)
 
 -- and refused exactly where they are none
-of-answer : (r : PublicKey) → ((t : KeyType) (a : ℕ) → r ≡ Key t a → ⊥) → (why : PublicKeyError) × (r ≡ Refused why)
-of-answer (Key t a) n = absurd (n t a refl)
-of-answer (Refused why) n = (why, refl)
+of-answer : (r : Result PublicKey PublicKeyError) → ((t : KeyType) (a : ℕ) → r ≡ found t a → ⊥)
+    → (why : PublicKeyError) × (r ≡ Err why)
+of-answer (Ok k) n = absurd (n k.key_type k.start refl)
+of-answer (Err why) n = (why, refl)
 
 pub no_key-exactly : (s : List ℕ) → Bytes s → length s < 2 ^ 64
-    → ((why : PublicKeyError) × (decode_protobuf s ≡ Refused why)) ↔ ((t : KeyType) (d : List ℕ) → IsKey s t d → ⊥)
+    → ((why : PublicKeyError) × (decode_protobuf s ≡ Err why)) ↔ ((t : KeyType) (d : List ℕ) → IsKey s t d → ⊥)
 no_key-exactly s b l = (
   λ x t d k. let y = (key-exactly s t d b l).1 k in clash (let z = x.1 in let w = y.1 in cc),
   λ n. of-answer (decode_protobuf s) (λ t a e. n t (drop a s) ((key-exactly s t (drop a s) b l).0 (a, e, refl))),
 )
 
 -- never two readings
-pub one_key : {s c d : List ℕ} {t u : KeyType} → Bytes s → length s < 2 ^ 64 → IsKey s t c → IsKey s u d → (t ≡ u) × (c ≡ d)
+pub one_key : {s c d : List ℕ} {t u : KeyType} → Bytes s → length s < 2 ^ 64 → IsKey s t c → IsKey s u d
+    → (t ≡ u) × (c ≡ d)
 one_key {s} {c} {d} {t} {u} b l x y =
     let p = (key-exactly s t c b l).1 x in
     let q = (key-exactly s u d b l).1 y in
-    let e : Key t p.0 ≡ Key u q.0 = sym p.1 ∙ q.1 in
-    let m : p.0 ≡ q.0 = cc in
-    let n : t ≡ u = cc in
-    (n, sym p.2 ∙ ap (λ (k : ℕ). drop k s) m ∙ q.2)
+    let e = of_found (sym p.1 ∙ q.1) in
+    (e.0, sym p.2 ∙ ap (λ (k : ℕ). drop k s) e.1 ∙ q.2)

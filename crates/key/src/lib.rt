@@ -3,10 +3,11 @@
 
 pub mod told;
 
-ghost use Rattle.std.specs.Prelude.{◌≡◌, ◌+◌, ◌≤◌, ◌<◌, length};
-ghost use Rattle.key.specs.Decode.{type_of, on_total, on_data, decode_protobuf};
+ghost use Rattle.std.specs.Prelude.{◌≡◌, Ok};
+ghost use Rattle.key.specs.Decode.{known, on_tag, on_total, on_data, decode_protobuf};
+ghost use Rattle.key.specs.declared.PublicKeyError.TheVariants.{Varint};
 
-use peer_id::{Uvarint, VarintError, read_uvarint};
+use peer_id::{VarintError, read_uvarint};
 
 pub const TYPE_TAG: u8 = 0x08;
 
@@ -15,17 +16,10 @@ pub const DATA_TAG: u8 = 0x12;
 // Which key it is: 0 to 3.
 #[derive(Clone, Copy)]
 pub enum KeyType {
-    Rsa,
-    Ed25519,
-    Secp256k1,
-    Ecdsa,
-}
-
-// The byte that stands where a tag is expected, if one does.
-#[derive(Clone, Copy)]
-pub enum Found {
-    Byte(u8),
-    Nothing,
+    Rsa = 0,
+    Ed25519 = 1,
+    Secp256k1 = 2,
+    Ecdsa = 3,
 }
 
 #[derive(Clone, Copy)]
@@ -33,7 +27,7 @@ pub enum PublicKeyError {
     EmptyInput,
     InvalidFieldTag {
         expected: u8,
-        found: Found,
+        found: Option<u8>,
     },
     Varint(VarintError),
     UnknownKeyType(u64),
@@ -44,93 +38,89 @@ pub enum PublicKeyError {
     },
 }
 
-// A key's type, and where its data start in the input, whose end is theirs; or why there is none.
-#[derive(Clone, Copy)]
-pub enum PublicKey {
-    Key { key_type: KeyType, start: usize },
-    Refused(PublicKeyError),
+impl From<VarintError> for PublicKeyError {
+    ghost from_gives = { λ why error. error ≡ Varint why };
+
+    fn from(why: VarintError) -> PublicKeyError {
+        PublicKeyError::Varint(why)
+    }
 }
 
-// The type of a number up to 3.
-fn type_of(raw: u64) -> KeyType
-    requires { raw < 4 }
-    ensures { result ≡ type_of raw }
+// A key's type, and where its data start in the input, whose end is theirs.
+#[derive(Clone, Copy)]
+pub struct PublicKey {
+    pub key_type: KeyType,
+    pub start: usize,
+}
+
+#[tactic(auto, unfolding(crate::specs::Decode::type_of))]
+impl TryFrom<u64> for KeyType {
+    type Error = PublicKeyError;
+
+    ghost try_from_gives = { λ value key_type. key_type ≡ known value };
+
+    fn try_from(value: u64) -> Result<KeyType, PublicKeyError> {
+        match value {
+            0 => Ok(KeyType::Rsa),
+            1 => Ok(KeyType::Ed25519),
+            2 => Ok(KeyType::Secp256k1),
+            3 => Ok(KeyType::Ecdsa),
+            _ => Err(PublicKeyError::UnknownKeyType(value)),
+        }
+    }
+}
+
+// Whether a field's tag stands at a place.
+fn check_tag(input: &[u8], at: usize, expected: u8) -> Result<(), PublicKeyError>
+    ensures { result ≡ on_tag input.now at expected (Ok tt) }
 {
-    match raw {
-        0 => KeyType::Rsa,
-        1 => KeyType::Ed25519,
-        2 => KeyType::Secp256k1,
-        _ => KeyType::Ecdsa,
+    match input.get(at).copied() {
+        Some(b) if b == expected => Ok(()),
+        found => Err(PublicKeyError::InvalidFieldTag { expected, found }),
     }
 }
 
 // Data of `size` bytes from `start` on, in an input of len bytes: they must end just there.
-fn data_from(len: usize, key_type: KeyType, start: usize, size: u64) -> PublicKey
+#[tactic(auto, unfolding(crate::specs::Decode::on_total))]
+fn data_from(
+    len: usize,
+    key_type: KeyType,
+    start: usize,
+    size: u64,
+) -> Result<PublicKey, PublicKeyError>
     ensures { result ≡ on_total len key_type start size }
 {
-    let most = 18446744073709551615 - start;
-    let size = size as usize;
-    if most < size {
-        return PublicKey::Refused(PublicKeyError::LengthOverflow);
-    }
-    let total = start + size;
+    let total = start
+        .checked_add(size as usize)
+        .ok_or(PublicKeyError::LengthOverflow)?;
     if total != len {
-        return PublicKey::Refused(PublicKeyError::InvalidLength {
+        return Err(PublicKeyError::InvalidLength {
             expected_total: total,
             actual_total: len,
         });
     }
-    PublicKey::Key { key_type, start }
+    Ok(PublicKey { key_type, start })
 }
 
 // The second field, at a place.
-fn decode_data(input: &[u8], key_type: KeyType, at: usize) -> PublicKey
+fn decode_data(input: &[u8], key_type: KeyType, at: usize) -> Result<PublicKey, PublicKeyError>
     ensures { result ≡ on_data input.now key_type at }
 {
-    if input.len() <= at {
-        return PublicKey::Refused(PublicKeyError::InvalidFieldTag {
-            expected: DATA_TAG,
-            found: Found::Nothing,
-        });
-    }
-    let b = input[at];
-    if b != DATA_TAG {
-        return PublicKey::Refused(PublicKeyError::InvalidFieldTag {
-            expected: DATA_TAG,
-            found: Found::Byte(b),
-        });
-    }
+    check_tag(input, at, DATA_TAG)?;
     let next = at + 1;
-    let size = read_uvarint(&input[next..]);
-    match size {
-        Uvarint::Refused(why) => PublicKey::Refused(PublicKeyError::Varint(why)),
-        Uvarint::Value { value, used } => data_from(input.len(), key_type, next + used, value),
-    }
+    let (size, used) = read_uvarint(&input[next..])?;
+    data_from(input.len(), key_type, next + used, size)
 }
 
 // The public key that some bytes are: type and data, in this order, and nothing else.
-pub fn decode_protobuf(input: &[u8]) -> PublicKey
+pub fn decode_protobuf(input: &[u8]) -> Result<PublicKey, PublicKeyError>
     ensures { result ≡ decode_protobuf input.now }
 {
-    if input.len() == 0 {
-        return PublicKey::Refused(PublicKeyError::EmptyInput);
+    if input.is_empty() {
+        return Err(PublicKeyError::EmptyInput);
     }
-    let b = input[0];
-    if b != TYPE_TAG {
-        return PublicKey::Refused(PublicKeyError::InvalidFieldTag {
-            expected: TYPE_TAG,
-            found: Found::Byte(b),
-        });
-    }
-    let raw = read_uvarint(&input[1..]);
-    match raw {
-        Uvarint::Refused(why) => PublicKey::Refused(PublicKeyError::Varint(why)),
-        Uvarint::Value { value, used } => {
-            if 3 < value {
-                return PublicKey::Refused(PublicKeyError::UnknownKeyType(value));
-            }
-            let key_type = type_of(value);
-            decode_data(input, key_type, 1 + used)
-        }
-    }
+    check_tag(input, 0, TYPE_TAG)?;
+    let (value, used) = read_uvarint(&input[1..])?;
+    let key_type = KeyType::try_from(value)?;
+    decode_data(input, key_type, 1 + used)
 }

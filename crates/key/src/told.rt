@@ -3,26 +3,21 @@ ghost use Rattle.std.specs.Prelude.{◌≡◌};
 ghost use Rattle.key.specs.Key.{code_of};
 ghost use Rattle.key.specs.Told.{key_told};
 
-use super::{KeyType, PublicKey};
+use super::{KeyType, PublicKey, PublicKeyError};
 use basis::{Told, refusals};
 
 // The number of a key's type.
 pub fn code_of(key_type: KeyType) -> u64
     ensures { result ≡ code_of key_type }
 {
-    match key_type {
-        KeyType::Rsa => 0,
-        KeyType::Ed25519 => 1,
-        KeyType::Secp256k1 => 2,
-        KeyType::Ecdsa => 3,
-    }
+    key_type as u64
 }
 
-pub fn told_key(key: PublicKey) -> Told
+pub fn told_key(key: Result<PublicKey, PublicKeyError>) -> Told
     ensures { result ≡ key_told key }
 {
     match key {
-        PublicKey::Key { key_type, start } => Told::two(0, code_of(key_type), start as u64),
-        PublicKey::Refused(_) => Told::none(refusals::INVALID_KEY),
+        Ok(PublicKey { key_type, start }) => Told::two(0, code_of(key_type), start as u64),
+        Err(_) => Told::none(refusals::INVALID_KEY),
     }
 }

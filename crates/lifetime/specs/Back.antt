@@ -1,14 +1,12 @@
 -- A call whose reading is before the gateway's clock, and a history with any such calls inserted; and why such a call is
 -- refused. That it leaves everything, and that the insertion changes nothing, is in proofs/Back.antt.
-use Rattle.std.specs.Prelude.{ℕ, ◌<◌, ◌≡◌, refl, Bool, List, [], ◌∷◌}
+use Rattle.std.specs.Prelude.{None, Result, Ok, Err, ℕ, ◌<◌, ◌≡◌, refl, Bool, List, [], ◌∷◌}
 use Rattle.std.proofs.Common.{arith, lt-ltb}
-use Rattle.std.proofs.Math.Option.{none}
 use Rattle.basis.specs.declared.Edition.{Edition}
+use Rattle.basis.specs.declared.Fault.{Fault}
 use Rattle.basis.specs.Dialect.{mode_of}
 use Rattle.basis.specs.Cases.{clash}
-use Rattle.node.specs.declared.Lent.{Lent}
-use Rattle.node.specs.declared.Lent.TheVariants as lent
-use Rattle.node.specs.declared.Beat.TheVariants as beat
+use Rattle.node.specs.declared.BeatError.TheVariants as beat
 use Rattle.node.specs.Calls.{Plan, no, taken, on_lent, lent_of, beat_number, beat_answer}
 use Rattle.node.specs.Laws.{plan_takes}
 use Rattle.history.specs.History.{State, gateway_of, Call, admit, heartbeat, advertise, ask, serve, explain, plan_in}
@@ -27,7 +25,7 @@ pub record StepsBack (s : State) (c : Call) : Type 0 where
 -- ---- it is refused
 -- an admit, since it takes nothing
 back_untaken : (s : State) (ed : Edition) (body : List ℕ) (i : ℕ) (word : Bool) (at : ℕ) (p : Plan)
-    → plan_in s ed body i word at ≡ p → at < s.node.clock → plan_form (mode_of s.node.cache.flags) p ≡ none
+    → plan_in s ed body i word at ≡ p → at < s.node.clock → plan_form (mode_of s.node.cache.flags) p ≡ None
 back_untaken s ed body i word at (no r) e h = refl
 back_untaken s ed body i word at (taken m id) e h =
     let t = ((plan_takes s.node s.ids s.messages ed body i word at m id).0 e).forward in absurd (omega arith)
@@ -39,9 +37,10 @@ admit-back s ed body i word at h =
     untaken_refused s ed body i word at (back_untaken s ed body i word at (plan_in s ed body i word at) refl h)
 
 -- a heartbeat
-beat-of : (l : Lent) (clock : ℕ) → 0 < beat_number (on_lent beat.Faulty l (beat.ClockBack clock))
-beat-of (lent.Faulty why) clock = fault-some why
-beat-of lent.Fine clock = omega arith
+beat-of : (l : Result (Unit {0}) Fault) (clock : ℕ)
+    → 0 < beat_number (on_lent (λ (why : Fault). Err (beat.Faulty why)) l (Err (beat.ClockBack clock)))
+beat-of (Err why) clock = fault-some why
+beat-of (Ok tt) clock = omega arith
 
 pub beat-back : (s : State) (at : ℕ) → at < s.node.clock → 0 < refusal_at s (heartbeat at)
 unfolding beat_answer

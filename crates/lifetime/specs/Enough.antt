@@ -1,8 +1,7 @@
 -- Choosing max_seen: two calls that make one form new within ttl need max_seen others between them, so max_seen + 2 in
 -- all. Where at most max_seen + 1 calls make a form new within any stretch of ttl, none is made new twice within ttl.
-use Rattle.std.specs.Prelude.{ℕ, ◌+◌, ◌-◌, ◌^◌, ◌≤◌, ◌<◌, ◌≡◌, true, cond, List, [], ◌∷◌, ◌++◌, leb}
+use Rattle.std.specs.Prelude.{Option, Some, None, ℕ, ◌+◌, ◌-◌, ◌^◌, ◌≤◌, ◌<◌, ◌≡◌, true, cond, List, [], ◌∷◌, ◌++◌, leb}
 use Rattle.std.proofs.Common.{⊎_elim, leb-true, leb-false, le-leb, lt-ltb}
-use Rattle.std.proofs.Math.Option.{Option, none, some}
 use native.Mathlib.Omega.{arith}
 use Rattle.basis.specs.Cases.{either}
 use Rattle.rows.specs.Ids.{same_bytes}
@@ -33,15 +32,15 @@ new-counts {at = at} from ttl n h k = rw (n.read, n.made, within-at from ttl at 
 
 -- ---- the others made new by some calls, all of them within the stretch
 other_one : (form : List ℕ) (made : Option (List ℕ)) → is_other form made ≤ is_made made
-other_one form none = omega arith
-other_one form (some x) = either (same_bytes x form) (λ t. rw t (omega arith)) (λ t. rw t (omega arith))
+other_one form None = omega arith
+other_one form (Some x) = either (same_bytes x form) (λ t. rw t (omega arith)) (λ t. rw t (omega arith))
 
 step_counts : (form : List ℕ) (from ttl : ℕ) {g h : Gateway} {rs : List ℕ} {made : Option (List ℕ)} → Step g h rs made
     → from ≤ g.clock → h.clock < from + ttl → is_other form made ≤ cond (is_within from ttl rs) (is_made made) 0
 step_counts form from ttl (stayed e) a b = omega arith
 step_counts form from ttl (swept at forward c e) a b = omega arith
 step_counts form from ttl (entered at x forward c f e) a b =
-    rw (within-at from ttl at (omega arith) (omega arith)) (other_one form (some x))
+    rw (within-at from ttl at (omega arith) (omega arith)) (other_one form (Some x))
 
 others-within : (form : List ℕ) (from ttl : ℕ) (calls : List Call) (s : State) → Kept s → from ≤ (gateway_of s).clock
     → (gateway_of (after_all calls s)).clock < from + ttl → others_new form calls s ≤ new_within from ttl calls s

@@ -1,10 +1,10 @@
 -- In a history from fresh no lent node or store is ever found bad: 40, 41 and 42, and whatever is above, never arise.
-use Rattle.std.specs.Prelude.{ℕ, ◌≤◌, ◌<◌, ◌≡◌, refl, List, ◌↔◌, ltb}
+use Rattle.std.specs.Prelude.{Result, ℕ, ◌≤◌, ◌<◌, ◌≡◌, refl, List, ◌↔◌, ltb}
 use Rattle.std.proofs.Common.{ap, arith, ltb-true, ltb-false}
+use Rattle.basis.specs.declared.Fault.{Fault}
+use Rattle.basis.specs.Told.{fine_told}
 use Rattle.basis.specs.Cases.{either}
 use Rattle.basis.specs.Refusals.{bad_setting}
-use Rattle.node.specs.declared.Lent.{Lent}
-use Rattle.node.specs.Told.{lent_told}
 use Rattle.node.specs.Calls.{lent_of}
 use Rattle.node.specs.Exactly.{admit-faults, beat-faults, advertise-faults, explain-faults, ask-faults, serve-faults}
 use Rattle.history.specs.History.{State, Settings, Fresh, Call, admit, heartbeat, advertise, ask, serve, explain}
@@ -19,8 +19,8 @@ small x l same z =
     (λ t. let h = ltb-false x bad_setting t in let e = (same x h).0 refl in absurd (omega arith))
 
 module _ (s : State) (kept : Kept s) where
-  none : (lent_told (lent_of s.node s.ids s.messages)).number ≡ 0
-  none = ap (λ (l : Lent). (lent_told l).number) kept.fine
+  none : (fine_told (lent_of s.node s.ids s.messages)).number ≡ 0
+  none = ap (λ (l : Result (Unit {0}) Fault). (fine_told l).number) kept.fine
 
   not-faulty : (c : Call) → refusal_at s c < bad_setting
   not-faulty (admit ed body i word at) =

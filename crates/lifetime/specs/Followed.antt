@@ -1,13 +1,12 @@
 -- What becomes of an id that was made new: it stays where it is among the ids seen, behind it no more than the others
 -- that were made new since; or its expiry is reached; or as many others as the gateway keeps were made new since.
 use Prim.Native.Nat.{ℕ, suc, ◌+◌, ◌-◌, ◌≤◌}
-use Rattle.std.specs.Prelude.{◌≡◌, true, false, ◌⊎◌, leb, eqb}
+use Rattle.std.specs.Prelude.{Option, Some, ◌≡◌, true, false, ◌⊎◌, leb, eqb}
 use Rattle.std.proofs.Common.{sym, subst, ◌∙◌, ⊎_elim, arith}
 use Rattle.std.proofs.Math.Path.{ap}
 use Rattle.std.proofs.Math.Bool.{or-true}
 use mathlib.Core.List.{List, [], ◌∷◌, ◌++◌, append_assoc}
 use Rattle.std.proofs.Math.Logic.{inl, inr}
-use Rattle.std.proofs.Math.Option.{Option, some}
 use Rattle.std.proofs.Math.ListN.{length, drop, length-append}
 use Rattle.std.proofs.Math.Seq.{drop-append-le}
 use borrow.Author.Tests.{leb-true, leb-false, eqb-true, eqb-false}
@@ -151,7 +150,7 @@ followed_all form expiry n (c ∷ cs) s kept set f =
     subst (λ (k : ℕ). Followed form expiry k (gateway_of (after_all cs (after c s)))) (omega arith) rest
 
 -- ---- a form that was made new just now
-pub followed_new : {form : List ℕ} {at : ℕ} {g h : Gateway} → h.max_seen ≡ g.max_seen → Step g h (at ∷ []) (some form)
+pub followed_new : {form : List ℕ} {at : ℕ} {g h : Gateway} → h.max_seen ≡ g.max_seen → Step g h (at ∷ []) (Some form)
     → Followed form (until at g.ttl) 0 h
 followed_new {g = g} same (entered at form forward c f e) =
     either (eqb g.max_seen 0) (λ t. let z = eqb-true g.max_seen 0 t in crowded (rw same (omega arith)))
@@ -166,7 +165,7 @@ followed_new {g = g} same (entered at form forward c f e) =
 
 -- ---- where it is made new again, its expiry is reached, or enough others were made new
 pub followed_again : {form : List ℕ} {expiry n at : ℕ} {g h : Gateway} → Followed form expiry n g
-    → Step g h (at ∷ []) (some form) → (expiry ≤ at) ⊎ (g.max_seen ≤ n)
+    → Step g h (at ∷ []) (Some form) → (expiry ≤ at) ⊎ (g.max_seen ≤ n)
 followed_again {expiry = expiry} {g = g} (in_place newer l b) (entered at form forward c f e) =
     ⊎_elim (λ (y : expiry ≤ at). inl y)
     (λ y. let k = before-held newer form expiry (live at g.seen) y in clash (cc))

@@ -1,8 +1,8 @@
 -- No part of the theorem can be had for less: four sentences that ask less or say more, each false by a computed
 -- history; and one answer more within a stretch of ttl is too many.
-use Rattle.std.specs.Prelude.{ℕ, ◌+◌, ◌-◌, ◌^◌, ◌≤◌, ◌<◌, ◌≡◌, refl, List, [], ◌∷◌, ◌++◌, ◌⊎◌, length, take}
+use Rattle.std.specs.Prelude.{Option, Some, None, ℕ, ◌+◌, ◌-◌, ◌^◌, ◌≤◌, ◌<◌, ◌≡◌, refl, List, [], ◌∷◌, ◌++◌, ◌⊎◌}
+use Rattle.std.specs.Prelude.{length, take}
 use Rattle.std.proofs.Common.{ap, ◌∙◌, inl, inr, ⊎_elim, arith}
-use Rattle.std.proofs.Math.Option.{Option, none, some}
 use Rattle.basis.specs.Cases.{either}
 use Rattle.seen.specs.Entries.{until}
 use Rattle.history.specs.History.{State, Settings, Fresh, Call, after, after_all, reading}
@@ -77,8 +77,8 @@ not-last-reading says =
 
 -- ---- max_seen + 2 calls that make a form new within a stretch of ttl: too many, where they are all there are
 one_at_most : (o : Option (List ℕ)) → is_made o ≤ 1
-one_at_most none = omega arith
-one_at_most (some form) = omega arith
+one_at_most None = omega arith
+one_at_most (Some form) = omega arith
 
 within-most : (from ttl : ℕ) (calls : List Call) (s : State) → new_within from ttl calls s ≤ length calls
 unfolding new_within

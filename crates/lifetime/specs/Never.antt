@@ -2,12 +2,11 @@
 -- the last one left them, any bodies, words, readings and buffers, evictions and refused calls included: where two
 -- admits made one seen form new, the second reading is at least ttl after the first, or at least max_seen calls between
 -- them made another form new.
-use Rattle.std.specs.Prelude.{ℕ, ◌+◌, ◌-◌, ◌^◌, ◌≤◌, ◌<◌, ◌≡◌, refl, Bool, List, ◌⊎◌}
+use Rattle.std.specs.Prelude.{Some, Ok, ℕ, ◌+◌, ◌-◌, ◌^◌, ◌≤◌, ◌<◌, ◌≡◌, refl, Bool, List, ◌⊎◌}
 use Rattle.std.proofs.Common.{sym, subst, ◌∙◌, inl, inr, ⊎_elim, arith}
-use Rattle.std.proofs.Math.Option.{some}
 use Rattle.basis.specs.declared.Edition.{Edition}
 use Rattle.seen.specs.Entries.{until}
-use Rattle.node.specs.declared.Admit.TheVariants as answer
+use Rattle.node.specs.declared.Novelty.TheVariants as novelty
 use Rattle.history.specs.History.{State, gateway_of, Settings, Fresh, Call, admit, answer_in, after, after_all}
 use Rattle.history.proofs.Laws.{after-keeps, all_keep, history_keeps, after-set, all_set, history_set}
 use Rattle.lifetime.specs.Lifetime.{taken_form, made_new, NewAt, Twice, others_new}
@@ -70,17 +69,17 @@ module _ {x : Settings} {s : State} (fresh : Fresh x s) (before : List Call) (fi
   now = after_all between since-first
 
   not_new : later < at + x.ttl → later < 2 ^ 64 - 1 → others_new form between since-first < x.max_seen
-      → made_new now (admit ed body i word later) ≡ some form → ⊥
+      → made_new now (admit ed body i word later) ≡ Some form → ⊥
   not_new soon small few m =
       ⊎_elim (λ (e : until at x.ttl ≤ later). let h = until_reached at x.ttl later small e in omega arith)
       (λ (h : x.max_seen ≤ others_new form between since-first). omega arith)
       (never-until fresh (record { once = n; again = record { read = refl; made = m } }))
 
-  pub taken-again : taken_form now (admit ed body i word later) ≡ some form
+  pub taken-again : taken_form now (admit ed body i word later) ≡ Some form
       → later < at + x.ttl → later < 2 ^ 64 - 1 → others_new form between since-first < x.max_seen
-      → answer_in now ed body i word later ≡ answer.Duplicate
+      → answer_in now ed body i word later ≡ Ok novelty.Duplicate
   taken-again t soon small few =
       ⊎_elim
-      (λ (e : answer_in now ed body i word later ≡ answer.New).
+      (λ (e : answer_in now ed body i word later ≡ Ok novelty.New).
       absurd (not_new soon small few ((made-taken now ed body i word later form).1 (t, e))))
       (λ e. e) (taken-answers now ed body i word later form t)

@@ -1,14 +1,13 @@
 -- Histories that are written out: the form that each call makes new, and how many others are made new, is computed over
 -- gateways, without their stores.
-use Rattle.std.specs.Prelude.{ℕ, ◌+◌, ◌≤◌, ◌≡◌, cond}
+use Rattle.std.specs.Prelude.{Option, Some, None, Ok, ℕ, ◌+◌, ◌≤◌, ◌≡◌, cond}
 use Rattle.std.proofs.Math.Path.{refl, ap}
 use Rattle.std.proofs.Common.{sym, ap₂, subst, ◌∙◌}
 use Rattle.std.proofs.Math.Bool.{true}
 use mathlib.Core.List.{List, [], ◌∷◌, ◌++◌, append_assoc}
-use Rattle.std.proofs.Math.Option.{Option, none, some}
 use Rattle.basis.specs.declared.Edition.{Edition}
 use Rattle.basis.specs.Dialect.{mode_of}
-use Rattle.node.specs.declared.Admit.TheVariants as answer
+use Rattle.node.specs.declared.Novelty.TheVariants as novelty
 use Rattle.node.specs.Gateway.{Gateway, form_of, is_new, after_admit, after_beat}
 use Rattle.node.specs.Calls.{taken}
 use Rattle.node.specs.Laws.{admit-says}
@@ -26,9 +25,9 @@ use Rattle.lifetime.specs.Steps.{made-is}
 
 -- ---- the form that a call makes new, at a gateway
 abbrev pub form_by : Act → Gateway → Option (List ℕ)
-form_by (gets ed body m id at) g = cond (is_new at m id g) (some (form_of (mode_of g.flags) m id)) none
-form_by (beats at) g = none
-form_by (asks ed body out) g = none
+form_by (gets ed body m id at) g = cond (is_new at m id g) (Some (form_of (mode_of g.flags) m id)) None
+form_by (beats at) g = None
+form_by (asks ed body out) g = None
 
 unfoldable pub others_by : List ℕ → List Act → Gateway → ℕ
 others_by form [] g = 0
@@ -61,7 +60,7 @@ module _ {flags : ℕ} (s : State) (kept : Kept s) (same : (gateway_of s).flags 
 
   act_answers : (ed : Edition) (body m id : List ℕ) (at : ℕ) (xs : List Act)
       → Written flags (gateway_of s).clock (gets ed body m id at ∷ xs)
-      → answer_in s ed body 0 true at ≡ cond (is_new at m id (gateway_of s)) answer.New answer.Duplicate
+      → answer_in s ed body 0 true at ≡ cond (is_new at m id (gateway_of s)) (Ok novelty.New) (Ok novelty.Duplicate)
   act_answers ed body m id at xs (got clock now c up w) =
       admit-says s.node s.ids s.messages ed body 0 true at m id kept.typed (plan_is ed body m id at c up)
 
@@ -132,12 +131,13 @@ module _ {x : Settings} {s : State} (fresh : Fresh x s) (before : List Act) wher
   -- what it answers
   pub script_answers : (ed : Edition) (body m id : List ℕ) (at : ℕ) (rest : List Act)
       → Written x.flags 0 (before ++ (gets ed body m id at ∷ rest))
-      → answer_in (after_all (calls_of before) s) ed body 0 true at ≡ cond (is_new at m id left_by) answer.New answer.Duplicate
+      → answer_in (after_all (calls_of before) s) ed body 0 true at
+      ≡ cond (is_new at m id left_by) (Ok novelty.New) (Ok novelty.Duplicate)
   script_answers ed body m id at rest w =
       let t = after_all (calls_of before) s in
       act_answers t (history_keeps (calls_of before) fresh) (history_flags (calls_of before) fresh) ed body m id at rest
       (rest-is (gets ed body m id at ∷ rest) w)
-      ∙ ap (λ (g : Gateway). cond (is_new at m id g) answer.New answer.Duplicate)
+      ∙ ap (λ (g : Gateway). cond (is_new at m id g) (Ok novelty.New) (Ok novelty.Duplicate))
       (left_is (gets ed body m id at ∷ rest) w)
 
   -- and how many others the next ones make new
@@ -173,8 +173,8 @@ again-written {flags} before a between b rest w =
 module _ {x : Settings} {s : State} (fresh : Fresh x s) (before : List Act) (a : Act) (between : List Act)
     (b : Act) (rest : List Act) (w : Written x.flags 0 (before ++ (a ∷ (between ++ (b ∷ rest))))) (form : List ℕ) where
   pub script_twice : (at later : ℕ) → reading (call_of a) ≡ at ∷ [] → reading (call_of b) ≡ later ∷ []
-      → form_by a (gateway_after before (started_by x)) ≡ some form
-      → form_by b (gateway_after (before ++ (a ∷ between)) (started_by x)) ≡ some form
+      → form_by a (gateway_after before (started_by x)) ≡ Some form
+      → form_by b (gateway_after (before ++ (a ∷ between)) (started_by x)) ≡ Some form
       → Twice s (calls_of before) (call_of a) (calls_of between) (call_of b) at later form
   script_twice at later p q m k =
       record {
@@ -201,7 +201,7 @@ pub script_again : {x : Settings} {s : State} → Fresh x s → (before : List A
     (ed : Edition) (body m id : List ℕ) (later : ℕ) (rest : List Act)
     → Written x.flags 0 (before ++ (a ∷ (between ++ (gets ed body m id later ∷ rest))))
     → answer_in (after_all (calls_of between) (after (call_of a) (after_all (calls_of before) s))) ed body 0 true later
-    ≡ cond (is_new later m id (gateway_after (before ++ (a ∷ between)) (started_by x))) answer.New answer.Duplicate
+    ≡ cond (is_new later m id (gateway_after (before ++ (a ∷ between)) (started_by x))) (Ok novelty.New) (Ok novelty.Duplicate)
 script_again {x} {s} fresh before a between ed body m id later rest w =
     ap (λ (t : State). answer_in t ed body 0 true later) (sym (state-after before a between s))
     ∙ script_answers fresh (before ++ (a ∷ between)) ed body m id later rest

@@ -1,34 +1,30 @@
 -- What the definitions say of a call, in a history from fresh: an admit takes the seen form of the message that it
 -- brings exactly where that passes admission and the clock does not go back; it makes it new exactly where it answers
 -- new as well; and where it takes none, it is refused.
-use Rattle.std.specs.Prelude.{ℕ, ◌≤◌, ◌<◌, ◌≡◌, Bool, true, cond, List, ◌↔◌, ◌⊎◌, ltb, eqb}
+use Rattle.std.specs.Prelude.{Option, Some, None, Result, Ok, Err, ℕ, ◌≤◌, ◌<◌, ◌≡◌, Bool, true, cond, List, ◌↔◌, ◌⊎◌}
+use Rattle.std.specs.Prelude.{ltb, eqb}
 use Rattle.std.proofs.Math.Path.{refl}
 use Rattle.std.proofs.Common.{sym, ap, subst, inl, inr, arith, eqb-true}
 use Rattle.std.proofs.Math.Logic.{⊎_elim}
-use Rattle.std.proofs.Math.Option.{Option, none, some}
+use Rattle.basis.specs.declared.Fault.TheVariants as fault
+use Rattle.basis.specs.declared.Fault.{Fault}
+use Rattle.basis.specs.Told.{fault_told}
 use Rattle.basis.specs.declared.Edition.{Edition}
 use Rattle.basis.specs.Dialect.{mode_of, spoken}
 use Rattle.basis.specs.Cases.{either, clash}
-use Rattle.protobuf.specs.declared.Checked.{Checked}
-use Rattle.protobuf.specs.declared.Checked.TheVariants as checked
+use Rattle.protobuf.specs.declared.Refusal.{Refusal}
 use Rattle.protobuf.specs.RefusalLaws.{wire_range}
 use Rattle.protobuf.specs.Walk.{between}
 use Rattle.schema.specs.Accept.{accept_of}
-use Rattle.ids.specs.declared.MessageAt.{MessageAt}
-use Rattle.ids.specs.declared.MessageAt.TheVariants as found
 use Rattle.ids.specs.Ids.{message_at}
-use Rattle.admission.specs.declared.Admission.{Admission}
-use Rattle.admission.specs.declared.Admission.TheVariants as admission
+use Rattle.admission.specs.declared.Unfit.{Unfit}
 use Rattle.admission.specs.Admission.{admission_of, gives_id}
 use Rattle.admission.specs.AdmissionLaws.{unfit_range}
-use Rattle.node.specs.declared.Lent.{Lent}
-use Rattle.node.specs.declared.Lent.TheVariants as lent
-use Rattle.node.specs.declared.Fault.{Fault}
-use Rattle.node.specs.declared.Fault.TheVariants as fault
 use Rattle.node.specs.declared.Node.{Node}
-use Rattle.node.specs.declared.Admit.{Admit}
-use Rattle.node.specs.declared.Admit.TheVariants as answer
-use Rattle.node.specs.Told.{fault_told}
+use Rattle.node.specs.declared.AdmitError.TheVariants as admit-error
+use Rattle.node.specs.declared.AdmitError.{AdmitError}
+use Rattle.node.specs.declared.Novelty.TheVariants as novelty
+use Rattle.node.specs.declared.Novelty.{Novelty}
 use Rattle.node.specs.Gateway.{form_of}
 use Rattle.node.specs.State.{gateway_in}
 use Rattle.node.specs.Calls.{Plan, no, taken, on_lent, lent_of, plan_fit, plan_at, plan_body, planned, held_at, admit_number}
@@ -48,82 +44,79 @@ fault-some fault.Malformed = omega arith
 module _ (n : Node) (ss cs : List ℕ) (at : ℕ) (body : List ℕ) (i : ℕ) (word : Bool) where
   -- it takes a form, or is refused
   abbrev TakenOr : Plan → Type 0
-  TakenOr p = (plan_form (mode_of n.cache.flags) p ≡ none → ⊥) ⊎ (0 < admit_number (admit_answer n ss at p))
+  TakenOr p = (plan_form (mode_of n.cache.flags) p ≡ None → ⊥) ⊎ (0 < admit_number (admit_answer n ss at p))
 
   taken-or : (m id : List ℕ) → TakenOr (taken m id)
   taken-or m id = inl (λ e. clash (cc))
 
-  of-fit : (p : List ℕ) (r : Admission) → TakenOr (plan_fit n at p r)
-  of-fit p (admission.Unfit why) = inr (omega (arith, (unfit_range why).0))
-  of-fit p (admission.Fit a e b f) =
+  of-fit : (p : List ℕ) (r : Result ((ℕ × ℕ) × (ℕ × ℕ)) Unfit) → TakenOr (plan_fit n at p r)
+  of-fit p (Err why) = inr (omega (arith, (unfit_range why).0))
+  of-fit p (Ok ((a, e), (b, f))) =
       either (ltb at n.clock) (λ t. rw t (inr (omega arith))) (λ t. rw t (taken-or p _))
 
-  of_at : (r : MessageAt) → TakenOr (plan_at n at word body r)
-  of_at (found.Count k) = inr (omega arith)
-  of_at (found.At a e) = of-fit (between body a e) (admission_of n.cache.flags (between body a e) word)
+  of_at : (r : Result (ℕ × ℕ) ℕ) → TakenOr (plan_at n at word body r)
+  of_at (Err k) = inr (omega arith)
+  of_at (Ok (a, e)) = of-fit (between body a e) (admission_of n.cache.flags (between body a e) word)
 
-  of-body : (r : Checked) → TakenOr (plan_body n at word body i r)
-  of-body (checked.Refused why) = inr (omega (arith, (wire_range why.why).0))
-  of-body checked.Fine = of_at (message_at (mode_of n.cache.flags) body i)
+  of-body : (r : Result (Unit {0}) Refusal) → TakenOr (plan_body n at word body i r)
+  of-body (Err why) = inr (omega (arith, (wire_range why.why).0))
+  of-body (Ok tt) = of_at (message_at (mode_of n.cache.flags) body i)
 
-  of_lent_lem : (ed : Edition) (l : Lent) → TakenOr (on_lent (λ (why : Fault). no (answer.Faulty why)) l
+  of_lent_lem : (ed : Edition) (l : Result (Unit {0}) Fault)
+      → TakenOr (on_lent (λ (why : Fault). no (Err (admit-error.Faulty why))) l
       (plan_body n at word body i (accept_of (spoken (mode_of n.cache.flags) ed) body)))
-  of_lent_lem ed (lent.Faulty why) = inr (fault-some why)
-  of_lent_lem ed lent.Fine = of-body (accept_of (spoken (mode_of n.cache.flags) ed) body)
+  of_lent_lem ed (Err why) = inr (fault-some why)
+  of_lent_lem ed (Ok tt) = of-body (accept_of (spoken (mode_of n.cache.flags) ed) body)
 
   planned-or : (ed : Edition) → TakenOr (planned n ss cs ed body i word at)
   unfolding planned
   planned-or ed = of_lent_lem ed (lent_of n ss cs)
 
 module _ (s : State) (ed : Edition) (body : List ℕ) (i : ℕ) (word : Bool) (at : ℕ) where
-  pub untaken_refused : taken_form s (admit ed body i word at) ≡ none → 0 < refusal_at s (admit ed body i word at)
+  pub untaken_refused : taken_form s (admit ed body i word at) ≡ None → 0 < refusal_at s (admit ed body i word at)
   unfolding taken_form
   untaken_refused e =
       ⊎_elim
-      (λ (f : plan_form (mode_of s.node.cache.flags) (plan_in s ed body i word at) ≡ none → ⊥). absurd (f e))
+      (λ (f : plan_form (mode_of s.node.cache.flags) (plan_in s ed body i word at) ≡ None → ⊥). absurd (f e))
       (λ h. h) (planned-or s.node s.ids s.messages at body i word ed)
 
 -- ---- a call brings a message that gives an id under the flags, and this is its seen form: by call and flags alone
 pub record Brings (flags : ℕ) (c : Call) (form : List ℕ) : Type 0 where
   pub message : List ℕ
   pub id : List ℕ
-  pub brings : brought flags c ≡ some message
+  pub brings : brought flags c ≡ Some message
   pub gives : gives_id flags message id ≡ true
   pub marked : form ≡ form_of (mode_of flags) message id
 
 -- ---- the answer that counts as new
-new-answer : (r : Admit) → is_new r ≡ 1 → r ≡ answer.New
-new-answer answer.New e = refl
-new-answer answer.Duplicate e = absurd (omega arith)
-new-answer (answer.Faulty why) e = absurd (omega arith)
-new-answer (answer.Refused why) e = absurd (omega arith)
-new-answer (answer.NoMessage n) e = absurd (omega arith)
-new-answer (answer.Unfit why) e = absurd (omega arith)
-new-answer (answer.ClockBack clock) e = absurd (omega arith)
+new-answer : (r : Result Novelty AdmitError) → is_new r ≡ 1 → r ≡ Ok novelty.New
+new-answer (Ok novelty.New) e = refl
+new-answer (Ok novelty.Duplicate) e = absurd (omega arith)
+new-answer (Err why) e = absurd (omega arith)
 
 -- an admit answers with one of its two answers where it takes a form
 module _ (s : State) (ed : Edition) (body : List ℕ) (i : ℕ) (word : Bool) (at : ℕ) (form : List ℕ) where
-  of_plan : (p : Plan) → plan_form (mode_of s.node.cache.flags) p ≡ some form
-      → (admit_answer s.node s.ids at p ≡ answer.New) ⊎ (admit_answer s.node s.ids at p ≡ answer.Duplicate)
+  of_plan : (p : Plan) → plan_form (mode_of s.node.cache.flags) p ≡ Some form
+      → (admit_answer s.node s.ids at p ≡ Ok novelty.New) ⊎ (admit_answer s.node s.ids at p ≡ Ok novelty.Duplicate)
   of_plan (no r) e = clash (cc)
   of_plan (taken m id) e =
       either (held_at s.node s.ids at (form_of (mode_of s.node.cache.flags) m id)) (λ t. inr (rw t))
       (λ t. inl (rw t))
 
-  pub taken-answers : taken_form s (admit ed body i word at) ≡ some form
-      → (answer_in s ed body i word at ≡ answer.New) ⊎ (answer_in s ed body i word at ≡ answer.Duplicate)
+  pub taken-answers : taken_form s (admit ed body i word at) ≡ Some form
+      → (answer_in s ed body i word at ≡ Ok novelty.New) ⊎ (answer_in s ed body i word at ≡ Ok novelty.Duplicate)
   unfolding taken_form
   taken-answers e = of_plan (plan_in s ed body i word at) e
 
   -- one that is made new is taken, and the answer is new; and the other way round
-  where_new : (r : Admit) (o : Option (List ℕ)) → cond (eqb (is_new r) 1) o none ≡ some form
-      → (o ≡ some form) × (r ≡ answer.New)
+  where_new : (r : Result Novelty AdmitError) (o : Option (List ℕ)) → cond (eqb (is_new r) 1) o None ≡ Some form
+      → (o ≡ Some form) × (r ≡ Ok novelty.New)
   where_new r o e =
       either (eqb (is_new r) 1) (λ t. (rw t at e, new-answer r (eqb-true (is_new r) 1 t)))
       (λ t. clash (let z = rw t at e in cc))
 
-  pub made-taken : (made_new s (admit ed body i word at) ≡ some form)
-      ↔ ((taken_form s (admit ed body i word at) ≡ some form) × (answer_in s ed body i word at ≡ answer.New))
+  pub made-taken : (made_new s (admit ed body i word at) ≡ Some form)
+      ↔ ((taken_form s (admit ed body i word at) ≡ Some form) × (answer_in s ed body i word at ≡ Ok novelty.New))
   unfolding made_new
   made-taken = (
     where_new (answer_in s ed body i word at) (taken_form s (admit ed body i word at)),
@@ -147,7 +140,7 @@ module _ {x : Settings} {start : State} (fresh : Fresh x start) (calls : List Ca
   node-flags = same_flags
 
   of-taken : (form : List ℕ) (p : Plan) → plan_in s ed body i word at ≡ p
-      → plan_form (mode_of s.node.cache.flags) p ≡ some form
+      → plan_form (mode_of s.node.cache.flags) p ≡ Some form
       → Brings x.flags this form × ((gateway_of s).clock ≤ at)
   of-taken form (no r) e h = clash (cc)
   of-taken form (taken m id) e h =
@@ -169,7 +162,7 @@ module _ {x : Settings} {start : State} (fresh : Fresh x start) (calls : List Ca
       )
 
   -- it takes the form of the message that it brings, where the clock does not go back; and no other
-  pub taken-exactly : (form : List ℕ) → (taken_form s this ≡ some form)
+  pub taken-exactly : (form : List ℕ) → (taken_form s this ≡ Some form)
       ↔ (Brings x.flags this form × ((gateway_of s).clock ≤ at))
   unfolding taken_form
   taken-exactly form = (
@@ -179,20 +172,20 @@ module _ {x : Settings} {start : State} (fresh : Fresh x start) (calls : List Ca
         let k = history_keeps calls fresh in
         let e = brought_plan s x.flags same_flags ed body i word at b.message b.id b.brings b.gives
         k.fine (subst (λ (c : ℕ). c ≤ at) (node-clock s) p.1) in
-        rw (e, node-flags) (ap some (sym b.marked)),
+        rw (e, node-flags) (ap Some (sym b.marked)),
   )
 
   -- one that is new was not refused, so the clock did not go back
-  new-forward : (o : Option (List ℕ)) → taken_form s this ≡ o → answer_in s ed body i word at ≡ answer.New
+  new-forward : (o : Option (List ℕ)) → taken_form s this ≡ o → answer_in s ed body i word at ≡ Ok novelty.New
       → (gateway_of s).clock ≤ at
-  new-forward none e h =
+  new-forward None e h =
       let r = untaken_refused s ed body i word at e in
       let z : admit_number (answer_in s ed body i word at) ≡ 0 = ap admit_number h in absurd (omega arith)
-  new-forward (some form) e h = ((taken-exactly form).0 e).1
+  new-forward (Some form) e h = ((taken-exactly form).0 e).1
 
   -- and makes it new, where it answers new
-  pub made-exactly : (form : List ℕ) → (made_new s this ≡ some form)
-      ↔ (Brings x.flags this form × (answer_in s ed body i word at ≡ answer.New))
+  pub made-exactly : (form : List ℕ) → (made_new s this ≡ Some form)
+      ↔ (Brings x.flags this form × (answer_in s ed body i word at ≡ Ok novelty.New))
   made-exactly form = (
     λ h. let t = (made-taken s ed body i word at form).0 h in (((taken-exactly form).0 t.0).0, t.1),
     λ p.

@@ -2,9 +2,8 @@
 -- exactly max_seen others; one unit earlier and with one other fewer it is a duplicate. With the settings at their
 -- ends, too: a ttl of 0, a max_seen of 0 and of 1. At a second reading of 2^64 - 1, where expiries stop, it is new again
 -- within ttl. The other form of the same id, without a signature, counts as an other.
-use Rattle.std.specs.Prelude.{ℕ, ◌-◌, ◌^◌, ◌≡◌, refl, true, false, List, [], ◌∷◌, ◌++◌}
+use Rattle.std.specs.Prelude.{Some, Ok, ℕ, ◌-◌, ◌^◌, ◌≡◌, refl, true, false, List, [], ◌∷◌, ◌++◌}
 use Rattle.std.proofs.Common.{◌∙◌, arith}
-use Rattle.std.proofs.Math.Option.{some}
 use Rattle.basis.specs.declared.Edition.TheVariants.{V11}
 use Rattle.peer_id.specs.Uvarint.{read_uvarint, read_from, group_of}
 use Rattle.protobuf.specs.Field.{read_tag, read_len, read_varint, skip_fixed, skip_field, read_value, read_field}
@@ -18,7 +17,7 @@ use Rattle.rows.specs.Ids.{same_bytes, among}
 use Rattle.seen.specs.Entries.{holds, until, inserted, live}
 use Rattle.mcache.specs.Messages.{held, put}
 use Rattle.mcache.specs.State.{legal}
-use Rattle.node.specs.declared.Admit.TheVariants as answer
+use Rattle.node.specs.declared.Novelty.TheVariants as novelty
 use Rattle.node.specs.Gateway.{started, marked, is_new, after_admit}
 use Rattle.node.specs.State.{legal_settings}
 use Rattle.history.specs.History.{Settings, Fresh, heartbeat, after, after_all, answer_in, reading}
@@ -55,8 +54,8 @@ pub record NewAgain (x : Settings) (first : Act) (between : List Act) (second : 
 
 new-again : {x : Settings} (first : Act) (between : List Act) (second : Act) (at later others : ℕ) → Fresh x (start x)
     → Written x.flags 0 (first ∷ (between ++ (second ∷ []))) → reading (call_of first) ≡ at ∷ []
-    → reading (call_of second) ≡ later ∷ [] → form_by first (started_by x) ≡ some first_form
-    → form_by second (gateway_after between (gateway_by first (started_by x))) ≡ some first_form
+    → reading (call_of second) ≡ later ∷ [] → form_by first (started_by x) ≡ Some first_form
+    → form_by second (gateway_after between (gateway_by first (started_by x))) ≡ Some first_form
     → others_by first_form between (gateway_by first (started_by x)) ≡ others
     → NewAgain x first between second at later others
 unfolding calls_of gateway_after
@@ -73,11 +72,11 @@ pub record Again (x : Settings) (first : Act) (between : List Act) (n at later o
   pub once : NewAt (after_all [] (start x)) (call_of first) at first_form
   pub between_are : others_new first_form (calls_of between) (after (call_of first) (after_all [] (start x))) ≡ others
   pub duplicate : answer_in (after_all (calls_of between) (after (call_of first) (after_all [] (start x)))) V11 (message_body n)
-      0 true later ≡ answer.Duplicate
+      0 true later ≡ Ok novelty.Duplicate
 
 again : {x : Settings} (first : Act) (between : List Act) (n at later others : ℕ) → Fresh x (start x)
     → Written x.flags 0 (first ∷ (between ++ (signed_at n later ∷ []))) → reading (call_of first) ≡ at ∷ []
-    → form_by first (started_by x) ≡ some first_form
+    → form_by first (started_by x) ≡ Some first_form
     → is_new later (message n) (id_of n) (gateway_after between (gateway_by first (started_by x))) ≡ false
     → others_by first_form between (gateway_by first (started_by x)) ≡ others
     → Again x first between n at later others

@@ -1,14 +1,14 @@
 -- What the pieces of a place make together.
 use Prim.Native.Nat.{ℕ}
-use mathlib.Core.Path.{◌≡◌, refl, sym, ap, ◌∙◌}
+use mathlib.Core.Path.{◌≡◌, refl, sym, ◌∙◌}
 use mathlib.Core.List.{List, [], ◌∷◌, ◌++◌}
 use mathlib.Core.Bool.{Bool, true, false, cond}
 use mathlib.Core.Logic.{◌≢◌}
 use native.Mathlib.Omega.{arith}
 use lib.ListN.{length, take}
 use lib.Dec.{eqb}
+use Rattle.std.specs.Prelude.{Option, Some, None}
 use Rattle.basis.specs.declared.Spot.{Spot}
-use Rattle.basis.specs.declared.Spot.TheVariants.{Nowhere, At}
 use Rattle.basis.specs.Spot.{fields_of}
 use Rattle.text.specs.Line.{number, numbers}
 use Rattle.lines.specs.Lines.{fields_text, spot_text}
@@ -22,8 +22,8 @@ kept false true r a b c = refl
 kept false false true a b c = refl
 kept false false false a b c = refl
 
-counted : (a b c : ℕ) → take (length (fields_of (At 0 a b c))) (a ∷ b ∷ c ∷ []) ≡ fields_of (At 0 a b c)
-counted a b c = kept (eqb a 0) (eqb b 0) (eqb c 0) a b c
+counted : (s : Spot) → take (length (fields_of (Some s))) (s.outer ∷ s.middle ∷ s.inner ∷ []) ≡ fields_of (Some s)
+counted s = kept (eqb s.outer 0) (eqb s.middle 0) (eqb s.inner 0) s.outer s.middle s.inner
 
 none : (ns : List ℕ) → length ns ≡ 0 → [] ≡ fields_text ns
 unfolding fields_text
@@ -35,25 +35,23 @@ unfolding fields_text
 some [] h = absurd (h refl)
 some (n ∷ ns) h = refl
 
-module _ (a b c n : ℕ) (e : n ≡ length (fields_of (At 0 a b c))) where
-  pub fields-none : n ≡ 0 → [] ≡ fields_text (fields_of (At 0 a b c))
-  fields-none z = none (fields_of (At 0 a b c)) (sym e ∙ z)
+module _ (s : Spot) (n : ℕ) (e : n ≡ length (fields_of (Some s))) where
+  pub fields-none : n ≡ 0 → [] ≡ fields_text (fields_of (Some s))
+  fields-none z = none (fields_of (Some s)) (sym e ∙ z)
 
-  pub fields-some : n ≢ 0 → (32 ∷ 105 ∷ 110 ∷ []) ++ numbers (take n (a ∷ b ∷ c ∷ [])) ≡ fields_text (fields_of (At 0 a b c))
-  fields-some h =
-      ap (λ (k : ℕ). (32 ∷ 105 ∷ 110 ∷ []) ++ numbers (take k (a ∷ b ∷ c ∷ []))) e
-      ∙ ap (λ (ns : List ℕ). (32 ∷ 105 ∷ 110 ∷ []) ++ numbers ns) (counted a b c)
-      ∙ some (fields_of (At 0 a b c)) (λ z. h (e ∙ z))
+  pub fields-some : n ≢ 0
+      → (32 ∷ 105 ∷ 110 ∷ []) ++ numbers (take n (s.outer ∷ s.middle ∷ s.inner ∷ [])) ≡ fields_text (fields_of (Some s))
+  fields-some h = rw (e, counted s) (some (fields_of (Some s)) (λ z. h (e ∙ z)))
 
 -- ---- the place
-pub nowhere : (spot : Spot) → spot ≡ Nowhere → [] ≡ spot_text spot
+pub nowhere : (spot : Option Spot) → spot ≡ None → [] ≡ spot_text spot
 unfolding spot_text
 nowhere spot e = rw e
 
-pub somewhere : (spot : Spot) (n a b c : ℕ) → spot ≡ At n a b c
-    → (32 ∷ 97 ∷ 116 ∷ []) ++ (number n ++ fields_text (fields_of (At 0 a b c))) ≡ spot_text spot
+pub somewhere : (spot : Option Spot) (s : Spot) → spot ≡ Some s
+    → (32 ∷ 97 ∷ 116 ∷ []) ++ (number s.offset ++ fields_text (fields_of (Some s))) ≡ spot_text spot
 unfolding spot_text
-somewhere spot n a b c e = rw e
+somewhere spot s e = rw e
 
 -- ---- either way of a test
 pub in_full : (t : Bool) (xs ys : List ℕ) → t ≡ true → xs ≡ cond t xs ys

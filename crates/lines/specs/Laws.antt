@@ -6,9 +6,6 @@ use Rattle.std.proofs.lemmas.Bool.{lt-leb}
 use Rattle.basis.specs.Cases.{either}
 use Rattle.basis.specs.Writing.{end_in, set_in}
 use Rattle.basis.specs.Lists.{end_fits, set-fits, end_short, set-short}
-use Rattle.text.specs.declared.Header.{Header}
-use Rattle.text.specs.declared.Header.TheVariants.{Record}
-use Rattle.text.specs.Record.{content_length}
 use Rattle.text.specs.Line.{Puts}
 use Rattle.text.specs.Laws.{puts_in}
 use Rattle.lines.specs.Lines.{Wrote}
@@ -78,10 +75,6 @@ wrote_more {p} {q} {at} {end} {xs} {b} {a} h l f =
 -- a part from the front has as many elements as it was asked for
 pub prefix : (k : ℕ) (l : List ℕ) → k ≤ length l → k ≡ length (take k l)
 prefix k l h = sym (length-take-le k l h)
-
--- a record's content is within what a header allows
-pub content_fits : {m : ℕ} (h : Header) (k l : ℕ) → h ≡ Record k l → content_length h ≤ m → l ≤ m
-content_fits h k l e p = rw e at p
 
 -- an array as it is made
 pub filled : (n : ℕ) → n ≡ length {A = ℕ} (replicate n 0)

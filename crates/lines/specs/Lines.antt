@@ -1,7 +1,6 @@
 -- Lines that answer a record, in ASCII.
-use Rattle.std.specs.Prelude.{ℕ, ◌+◌, ◌-◌, ◌≤◌, ◌≡◌, List, [], ◌∷◌, ◌++◌, Bool, cond, length, take, ltb, leb, eqb}
+use Rattle.std.specs.Prelude.{Option, Some, None, ℕ, ◌+◌, ◌-◌, ◌≤◌, ◌≡◌, List, [], ◌∷◌, ◌++◌, Bool, cond, length, take, ltb, leb, eqb}
 use Rattle.basis.specs.declared.Spot.{Spot}
-use Rattle.basis.specs.declared.Spot.TheVariants.{Nowhere, At}
 use Rattle.basis.specs.declared.Told.{Told}
 use Rattle.basis.specs.Spot.{fields_of}
 use Rattle.basis.specs.Writing.{end_in, set_in}
@@ -23,10 +22,10 @@ fields_text [] = []
 fields_text (n ∷ ns) = 32 ∷ 105 ∷ 110 ∷ numbers (n ∷ ns)
 
 -- where in the body: ` at`, the offset, and the fields
-unfoldable pub spot_text : Spot → List ℕ
-spot_text Nowhere = []
-spot_text (At offset outer middle inner) =
-    32 ∷ 97 ∷ 116 ∷ (number offset ++ fields_text (fields_of (At offset outer middle inner)))
+unfoldable pub spot_text : Option Spot → List ℕ
+spot_text None = []
+spot_text (Some spot) =
+    32 ∷ 97 ∷ 116 ∷ (number spot.offset ++ fields_text (fields_of (Some spot)))
 
 -- ` refused`, the number in the scope's table, the values beside it, of which a refusal has at most three, and its place
 abbrev pub refusal : Told → List ℕ

@@ -4,12 +4,11 @@
 
 ghost use Rattle.std.specs.Prelude.{◌≡◌, ◌+◌, ◌-◌, ◌≤◌, cond, [], ◌∷◌, ◌++◌, length, take};
 ghost use Rattle.basis.specs.Spot.{fields_of};
-ghost use Rattle.basis.specs.declared.Spot.TheVariants.{At};
 ghost use Rattle.text.specs.Line.{Puts, decimal, number, numbers, refused};
 ghost use Rattle.lines.specs.Lines.{Wrote, fields_text, spot_text, refusal, shown_text, words_line, number_line, refusal_line};
 ghost use Rattle.lines.specs.Lines.{told_line, either_line, bytes_line, made_line};
 
-use basis::{Spot, Told, depth, has_room};
+use basis::{Spot, Told, has_room};
 
 pub fn put_word(out: &mut [u8], at: usize, word: &[u8]) -> usize
     ensures { Wrote (length word.now) word.now out.old at out.new result }
@@ -55,34 +54,29 @@ fn put_refused(
 }
 
 // The fields that enclose a place.
-fn put_fields(out: &mut [u8], at: usize, outer: u64, middle: u64, inner: u64) -> usize
+fn put_fields(out: &mut [u8], at: usize, spot: Spot) -> usize
     requires { at + 66 ≤ length out.old }
-    ensures { Puts 66 (fields_text (fields_of (At 0 outer middle inner))) out.old at out.new result }
+    ensures { Puts 66 (fields_text (fields_of (Some spot))) out.old at out.new result }
 {
-    let count = depth(outer, middle, inner);
+    let count = spot.depth();
     if count == 0 {
         return at;
     }
     let i = put_word(out, at, b" in");
-    put_values(out, i, count, outer, middle, inner)
+    put_values(out, i, count, spot.outer, spot.middle, spot.inner)
 }
 
 // Where in the body a refusal stands.
-fn put_spot(out: &mut [u8], at: usize, spot: Spot) -> usize
+fn put_spot(out: &mut [u8], at: usize, spot: Option<Spot>) -> usize
     requires { at + 90 ≤ length out.old }
     ensures { Puts 90 (spot_text spot) out.old at out.new result }
 {
     match spot {
-        Spot::Nowhere => at,
-        Spot::At {
-            offset,
-            outer,
-            middle,
-            inner,
-        } => {
+        None => at,
+        Some(spot) => {
             let i = put_word(out, at, b" at");
-            let j = put_value(out, i, offset as u64);
-            put_fields(out, j, outer, middle, inner)
+            let j = put_value(out, i, spot.offset as u64);
+            put_fields(out, j, spot)
         }
     }
 }
@@ -101,8 +95,7 @@ pub fn put_refusal(out: &mut [u8], at: usize, t: Told) -> usize
             t.second,
             t.third,
         );
-        let spot = t.spot;
-        return put_spot(out, i, spot);
+        return put_spot(out, i, t.spot);
     }
     at
 }
@@ -230,7 +223,7 @@ pub fn either_line(
 fn further(count: u8) -> u64
     ensures { result ≡ count - 1 }
 {
-    if count == 0 { 0 } else { count as u64 - 1 }
+    count.saturating_sub(1) as u64
 }
 
 // The call, the bytes that it made, and what it tells further.

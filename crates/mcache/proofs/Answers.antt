@@ -1,47 +1,45 @@
 -- The answers, case by case as the code comes to them.
-use Rattle.std.proofs.Common.{◌≡◌, ℕ, ◌+◌, ◌-◌, ◌*◌, ◌/◌, ◌%◌, ◌<◌, ◌≤◌, Bool, true, false, ◌&&◌, eqb, ltb, leb, List, [], ◌++◌, length, get_or, take, drop, replicate, sym, refl, ap, ◌∙◌, arith, take_at, le-ltb, lt-ltb, eq-eqb, ne_eqb, eqb-true, le-leb, leb-true}
+use Rattle.std.specs.Prelude.{Result, Ok, Err, nat_lt}
+use Rattle.std.specs.Result.{is_ok, is_err}
+use Rattle.std.proofs.Common.{◌≡◌, ℕ, ◌+◌, ◌-◌, ◌*◌, ◌/◌, ◌%◌, ◌<◌, ◌≤◌, Bool, true, false, eqb, List, [], length, get_or, take, drop, replicate, sym, refl, ap, ◌∙◌, arith, take_at, le-ltb, lt-ltb, eq-eqb, ne_eqb, le-leb}
 use lib.Seq.{sets, sets-eq, length-sets}
 use borrow.Author.Tests.{lt-leb}
 use Rattle.basis.specs.declared.Edition.{Edition}
 use Rattle.basis.specs.declared.Mode.{Mode}
 use Rattle.basis.specs.Dialect.{mode_of, spoken}
-use Rattle.basis.specs.declared.Written.TheVariants as written
-use Rattle.basis.specs.Cases.{either, clash}
+use Rattle.basis.specs.Cases.{clash}
 use Rattle.basis.specs.Writing.{set_in}
 use Rattle.basis.specs.Lists.{answer-fits, answer-short, written-fits, written-short, set-fits}
 use Rattle.rows.specs.Rows.{place_of}
-use Rattle.rows.specs.Ids.{distinct}
 use Rattle.rows.specs.RowsLaws.{place-lt}
-use Rattle.rows.specs.Store.{in_use, id_at, ids_in, all_up_to, InStore}
+use Rattle.rows.specs.Store.{in_use, id_at, all_up_to, InStore}
 use Rattle.rows.specs.StoreLaws.{short_in}
 use Rattle.protobuf.specs.declared.Refusal.{Refusal}
-use Rattle.protobuf.specs.declared.Checked.TheVariants as checked
 use Rattle.protobuf.specs.Walk.{between}
-use Rattle.ids.specs.declared.MessageAt.TheVariants as at
 use Rattle.schema.specs.Accept.{accept_of}
 use Rattle.ids.specs.Ids.{message_at, id_bytes}
 use Rattle.admission.specs.declared.Unfit.{Unfit}
-use Rattle.admission.specs.declared.Admission.{Admission}
-use Rattle.admission.specs.declared.Admission.TheVariants as admission
 use Rattle.admission.specs.Flags.{known_flags}
 use Rattle.admission.specs.Admission.{admission_of}
 use Rattle.admission.specs.AdmissionLaws.{fit-limits, fit-id}
 use Rattle.mcache.specs.declared.MessageCache.{MessageCache}
-use Rattle.mcache.specs.declared.Lent.{Lent}
-use Rattle.mcache.specs.declared.Lent.TheVariants as lent
-use Rattle.mcache.specs.declared.Put.{Put}
-use Rattle.mcache.specs.declared.Put.TheVariants as put
 use Rattle.mcache.specs.declared.PutDone.{PutDone}
-use Rattle.mcache.specs.declared.Lookup.TheVariants as lookup
 use Rattle.mcache.specs.declared.Offer.{Offer}
 use Rattle.mcache.specs.declared.Offer.TheVariants as offer
 use Rattle.mcache.specs.Messages.{offer_for}
-use Rattle.mcache.specs.declared.Gossip.{Gossip}
 use Rattle.mcache.specs.declared.GossipIds.{GossipIds}
-use Rattle.mcache.specs.declared.Gossip.TheVariants as gossip
-use Rattle.mcache.specs.State.{message_in, falls_from, runs_to, gives_in, ids_fit, rows_fit, legal, well_formed, Laid, Placed, Usable, message_size, message_id_size, message_limit, max_history, ids_size, ring_of, topics_size, Roomy, table_of, has_topic}
-use Rattle.mcache.specs.Calls.{lent_of, index_in, entered, entered_store, rows_lie, keepable, plan_kept, plan_under, kept_under, stored_under, shifted, found}
-use Rattle.mcache.specs.Calls.{gossip_list, gossip_array, Plan, no, keep, answered, kept_in, stored_in, plan_fit, planned, shift_cache, get_part, lookup_answer, offer_at, offer_in, gossip_answer, gossip_count, gossip_rows}
+use Rattle.basis.specs.declared.Fault.{Fault}
+use Rattle.basis.specs.declared.Fault.TheVariants as fault
+use Rattle.mcache.specs.declared.GossipError.TheVariants as gossip
+use Rattle.mcache.specs.declared.GossipError.{GossipError}
+use Rattle.mcache.specs.declared.Kept.TheVariants as kept
+use Rattle.mcache.specs.declared.Kept.{Kept}
+use Rattle.mcache.specs.declared.PutError.TheVariants as put
+use Rattle.mcache.specs.declared.PutError.{PutError}
+use Rattle.basis.specs.Writing.{no_room}
+use Rattle.mcache.specs.State.{message_in, rows_fit, legal, well_formed, Laid, Placed, Usable, message_size, message_id_size, message_limit, max_history, ids_size, ring_of, topics_size, Roomy, table_of, has_topic}
+use Rattle.mcache.specs.Calls.{lent_of, index_in, entered, entered_store, rows_lie, keepable, plan_kept, kept_under, stored_under, shifted, found}
+use Rattle.mcache.specs.Calls.{gossip_list, gossip_array, Plan, no, answered, kept_in, stored_in, plan_fit, planned, shift_cache, get_part, lookup_answer, offer_at, offer_in, gossip_answer, gossip_count, gossip_rows}
 use Rattle.mcache.specs.Unique.{Puts, Keeps, Shifts, Gossips, Forms, WritesId}
 use Rattle.mcache.specs.StateLaws.{lent-kept}
 use Rattle.mcache.specs.GuardLaws.{lie_rows, when_keeps, keep_usable, form-fit}
@@ -54,44 +52,8 @@ roomy c x y z = record { counts = x; starts = y; sizes = z }
 
 -- ---- the rows
 module _ (c : MessageCache) (st : List ℕ) where
-  abbrev falls : Bool
-  falls = falls_from (c.history_len - 1) (in_use (ring_of c) c.window)
-
-  abbrev runs : Bool
-  runs = runs_to c.next_generation (in_use (ring_of c) c.generation)
-
   abbrev shorts : Bool
   shorts = all_up_to message_id_size (in_use (ring_of c) c.id_len)
-
-  abbrev gives : Bool
-  gives = gives_in c.flags (ring_of c) c.len c.id_len c.ids (table_of c) st
-
-  abbrev differ : Bool
-  differ = distinct (ids_in message_id_size (ring_of c) c.id_len c.ids)
-
-  pub rows-falls : falls ≡ false → false ≡ rows_fit c st
-  unfolding rows_fit
-  rows-falls h = sym (simp h)
-
-  pub rows-runs : falls ≡ true → runs ≡ false → false ≡ rows_fit c st
-  unfolding rows_fit
-  rows-runs a h = sym (simp (a, h))
-
-  pub rows-ids : falls ≡ true → runs ≡ true → (r : Bool) → r ≡ ids_fit c st → r ≡ rows_fit c st
-  unfolding rows_fit
-  rows-ids a b r h = h ∙ sym (simp (a, b))
-
-  pub ids_short : shorts ≡ false → false ≡ ids_fit c st
-  unfolding ids_fit
-  ids_short h = sym (simp h)
-
-  pub ids-gives : shorts ≡ true → gives ≡ false → false ≡ ids_fit c st
-  unfolding ids_fit
-  ids-gives d h = sym (simp (d, h))
-
-  pub ids-differ : shorts ≡ true → gives ≡ true → (r : Bool) → r ≡ differ → r ≡ ids_fit c st
-  unfolding ids_fit
-  ids-differ d e r h = h ∙ sym (simp (d, e))
 
   -- what the walks need of the rows
   module _ (few : c.max_messages ≤ message_limit) (starts : c.start ≤ c.max_messages) (within : c.count ≤ c.max_messages) where
@@ -114,12 +76,16 @@ module _ (c : MessageCache) (st : List ℕ) where
         }
 
 -- ---- the lent state
+pub no_fault : (l : Result (Unit {0}) Fault) → is_err l ≡ false → Ok tt ≡ l
+no_fault (Ok tt) h = refl
+no_fault (Err why) h = clash (cc)
+
 module _ (c : MessageCache) (st : List ℕ) where
-  pub lent_other : (length st / message_size ≡ c.max_messages → ⊥) → lent.BadStore ≡ lent_of c st
+  pub lent_other : (length st / message_size ≡ c.max_messages → ⊥) → Err fault.BadStore ≡ lent_of c st
   unfolding lent_of
   lent_other h = simp (ne_eqb (length st) (c.max_messages * message_size) (λ e. h (omega arith)))
 
-  pub lent-part : (length st % message_size ≡ 0 → ⊥) → lent.BadStore ≡ lent_of c st
+  pub lent-part : (length st % message_size ≡ 0 → ⊥) → Err fault.BadStore ≡ lent_of c st
   unfolding lent_of
   lent-part h = simp (ne_eqb (length st) (c.max_messages * message_size) (λ e. h (omega arith)))
 
@@ -127,17 +93,17 @@ module _ (c : MessageCache) (st : List ℕ) where
     whole : eqb (length st) (c.max_messages * message_size) ≡ true
     whole = eq-eqb (length st) (c.max_messages * message_size) (omega arith)
 
-    pub lent_none : c.history_len ≡ 0 → lent.Malformed ≡ lent_of c st
+    pub lent_none : c.history_len ≡ 0 → Err fault.Malformed ≡ lent_of c st
     unfolding lent_of well_formed legal
     lent_none h = simp (whole, lt-leb 1 c.history_len (omega arith))
 
     module _ (n : c.history_len ≡ 0 → ⊥) where
-      pub lent-long : max_history < c.history_len → lent.Malformed ≡ lent_of c st
+      pub lent-long : max_history < c.history_len → Err fault.Malformed ≡ lent_of c st
       unfolding lent_of well_formed legal
       lent-long h = simp (whole, le-leb 1 c.history_len (omega (arith, n)), lt-leb c.history_len max_history h)
 
       module _ (a : c.history_len ≤ max_history) where
-        pub lent-many : message_limit < c.max_messages → lent.Malformed ≡ lent_of c st
+        pub lent-many : message_limit < c.max_messages → Err fault.Malformed ≡ lent_of c st
         unfolding lent_of well_formed legal
         lent-many h = simp (
           whole,
@@ -147,7 +113,7 @@ module _ (c : MessageCache) (st : List ℕ) where
               message_limit h,
         )
 
-        pub lent-unknown : c.max_messages ≤ message_limit → known_flags c.flags ≡ false → lent.Malformed ≡ lent_of c st
+        pub lent-unknown : c.max_messages ≤ message_limit → known_flags c.flags ≡ false → Err fault.Malformed ≡ lent_of c st
         unfolding lent_of well_formed legal
         lent-unknown m h = simp (
           whole,
@@ -167,20 +133,20 @@ module _ (c : MessageCache) (st : List ℕ) where
             known,
           )
 
-          pub lent-start : c.max_messages < c.start → lent.Malformed ≡ lent_of c st
+          pub lent-start : c.max_messages < c.start → Err fault.Malformed ≡ lent_of c st
           unfolding lent_of well_formed
           lent-start h = simp (whole, settings, lt-leb c.start c.max_messages h)
 
           module _ (s : c.start ≤ c.max_messages) where
-            pub lent-count : c.max_messages < c.count → lent.Malformed ≡ lent_of c st
+            pub lent-count : c.max_messages < c.count → Err fault.Malformed ≡ lent_of c st
             unfolding lent_of well_formed
             lent-count h = simp (whole, settings, le-leb c.start c.max_messages s, lt-leb c.count c.max_messages h)
 
-            pub lent_rows_lem : c.count ≤ c.max_messages → rows_fit c st ≡ false → lent.Malformed ≡ lent_of c st
+            pub lent_rows_lem : c.count ≤ c.max_messages → rows_fit c st ≡ false → Err fault.Malformed ≡ lent_of c st
             unfolding lent_of well_formed
             lent_rows_lem k h = simp (whole, settings, le-leb c.start c.max_messages s, le-leb c.count c.max_messages k, h)
 
-            pub lent-fine : c.count ≤ c.max_messages → rows_fit c st ≡ true → lent.Fine ≡ lent_of c st
+            pub lent-fine : c.count ≤ c.max_messages → rows_fit c st ≡ true → Ok tt ≡ lent_of c st
             unfolding lent_of well_formed
             lent-fine k h = simp (whole, settings, le-leb c.start c.max_messages s, le-leb c.count c.max_messages k, h)
 
@@ -206,42 +172,24 @@ module _ (c : MessageCache) (st id : List ℕ) where
       let s : get_or c.len p 0 ≤ message_size = rw e (ok.short i h) in
       (omega (arith, r.few), omega (arith, r.few, r.lengths), omega (arith, r.room))
 
-  pub get-store : lent.BadStore ≡ lent_of c st → [] ≡ get_part c st id
+  pub get-fault : (l : Result (Unit {0}) Fault) → l ≡ lent_of c st → is_err l ≡ true → [] ≡ get_part c st id
   unfolding get_part
-  get-store e = rw (← e)
+  get-fault (Ok tt) e h = clash (cc)
+  get-fault (Err why) e h = rw (← e)
 
-  pub get-malformed : lent.Malformed ≡ lent_of c st → [] ≡ get_part c st id
-  unfolding get_part
-  get-malformed e = rw (← e)
-
-  pub get-found : lent.Fine ≡ lent_of c st → (r : List ℕ) → r ≡ found c st id → r ≡ get_part c st id
+  pub get-found : Ok tt ≡ lent_of c st → (r : List ℕ) → r ≡ found c st id → r ≡ get_part c st id
   unfolding get_part
   get-found e r h = rw (← e) h
 
-  pub lookup_store : lent.BadStore ≡ lent_of c st → lookup.BadStore ≡ lookup_answer c st id
+  pub lookup_fault : (why : Fault) → Err why ≡ lent_of c st → Err why ≡ lookup_answer c st id
   unfolding lookup_answer
-  lookup_store e = rw (← e)
+  lookup_fault why e = rw (← e)
 
-  pub lookup_malformed : lent.Malformed ≡ lent_of c st → lookup.Malformed ≡ lookup_answer c st id
+  pub lookup_found : (Ok tt) ≡ lent_of c st → (i : ℕ) → i ≡ index_in c id → Ok (nat_lt i c.count) ≡ lookup_answer c st id
   unfolding lookup_answer
-  lookup_malformed e = rw (← e)
-
-  pub lookup_found : lent.Fine ≡ lent_of c st → (i : ℕ) → i ≡ index_in c id → i < c.count → lookup.Found ≡ lookup_answer c st id
-  unfolding lookup_answer
-  lookup_found e i f h = rw (← e, lt-ltb (index_in c id) c.count (omega arith))
-
-  pub lookup_missing : lent.Fine ≡ lent_of c st → (i : ℕ) → i ≡ index_in c id → c.count ≤ i → lookup.Missing ≡ lookup_answer c st id
-  unfolding lookup_answer
-  lookup_missing e i f h = rw (← e, le-ltb (index_in c id) c.count (omega arith))
+  lookup_found e i f = rw (← e, f)
 
 -- ---- why an id is told of or not
-module _ (carried : Bool) (age windows : ℕ) where
-  pub for_listed : carried ≡ true → age < windows → offer.Listed ≡ offer_for carried age windows
-  for_listed e h = rw (e, lt-ltb age windows h)
-
-  pub for_older : carried ≡ true → windows ≤ age → offer.OlderWindow age ≡ offer_for carried age windows
-  for_older e h = rw (e, le-ltb age windows h)
-
 module _ (c : MessageCache) (st id topic : List ℕ) (windows : ℕ) where
   pub offer_not : rows_lie (ring_of c) ≡ false → offer.NotCached ≡ offer_in c st id topic windows
   unfolding offer_in
@@ -259,71 +207,60 @@ module _ (c : MessageCache) (st id topic : List ℕ) (windows : ℕ) where
 
 -- ---- shift
 module _ (c : MessageCache) (st : List ℕ) where
-  pub shift-store : lent.BadStore ≡ lent_of c st → Shifts c st (record { answer = lent.BadStore; cache = c })
+  pub shift-fault : (l : Result (Unit {0}) Fault) → l ≡ lent_of c st → is_ok l ≡ false
+      → Shifts c st (record { answer = l; cache = c })
   unfolding shift_cache
-  shift-store e = record { answer = e; cache = rw (← e) }
+  shift-fault (Ok tt) e h = clash (cc)
+  shift-fault (Err why) e h = record { answer = e; cache = rw (← e) }
 
-  pub shift-malformed : lent.Malformed ≡ lent_of c st → Shifts c st (record { answer = lent.Malformed; cache = c })
+  pub shift-fine : (l : Result (Unit {0}) Fault) → l ≡ lent_of c st → is_ok l ≡ true → (r : MessageCache) → r ≡ shifted c
+      → Shifts c st (record { answer = l; cache = r })
   unfolding shift_cache
-  shift-malformed e = record { answer = e; cache = rw (← e) }
-
-  pub shift-fine : lent.Fine ≡ lent_of c st → (r : MessageCache) → r ≡ shifted c → Shifts c st (record { answer = lent.Fine; cache = r })
-  unfolding shift_cache
-  shift-fine e r h = record { answer = e; cache = rw (← e) h }
+  shift-fine (Ok tt) e h r g = record { answer = e; cache = rw (← e) g }
+  shift-fine (Err why) e h r g = clash (cc)
 
 -- ---- gossip_ids
-abbrev Tells : (c : MessageCache) (st topic : List ℕ) (windows : ℕ) → Gossip → ℕ → List ℕ → Type 0
+abbrev Tells : (c : MessageCache) (st topic : List ℕ) (windows : ℕ) → Result (Unit {0}) GossipError → ℕ → List ℕ → Type 0
 Tells c st topic windows a n rows = Gossips c st topic windows (record { answer = a; count = n; rows = rows })
 
 module _ (c : MessageCache) (st topic : List ℕ) (windows : ℕ) where
-  untold : (a : Gossip) → gossip_answer c st topic ≡ a → (a ≡ gossip.Ids → ⊥) → Tells c st topic windows a 0 (replicate message_limit 0)
+  untold : (a : Result (Unit {0}) GossipError) → gossip_answer c st topic ≡ a → (a ≡ Ok tt → ⊥) → Tells c st topic windows a 0 (replicate message_limit 0)
   unfolding gossip_count gossip_rows
-  untold gossip.Ids e n = absurd (n refl)
-  untold gossip.BadStore e n = record { answer = sym e; count = rw e; rows = rw e }
-  untold gossip.Malformed e n = record { answer = sym e; count = rw e; rows = rw e }
-  untold (gossip.TopicTooLong m) e n = record { answer = sym e; count = rw e; rows = rw e }
+  untold (Ok _) e n = absurd (n refl)
+  untold (Err why) e n = record { answer = sym e; count = rw e; rows = rw e }
 
-  says-store : lent.BadStore ≡ lent_of c st → gossip_answer c st topic ≡ gossip.BadStore
+  says-fault : (why : Fault) → Err why ≡ lent_of c st → gossip_answer c st topic ≡ Err (gossip.Faulty why)
   unfolding gossip_answer
-  says-store e = rw (← e)
+  says-fault why e = rw (← e)
 
-  says-malformed : lent.Malformed ≡ lent_of c st → gossip_answer c st topic ≡ gossip.Malformed
-  unfolding gossip_answer
-  says-malformed e = rw (← e)
-
-  says-long : lent.Fine ≡ lent_of c st → 1024 < length topic → gossip_answer c st topic ≡ gossip.TopicTooLong (length topic)
+  says-long : (Ok tt) ≡ lent_of c st → 1024 < length topic → gossip_answer c st topic ≡ Err (gossip.TopicTooLong (length topic))
   unfolding gossip_answer
   says-long e h = rw (← e, lt-ltb 1024 (length topic) h)
 
-  says-ids : lent.Fine ≡ lent_of c st → length topic ≤ 1024 → gossip_answer c st topic ≡ gossip.Ids
+  says-ids : (Ok tt) ≡ lent_of c st → length topic ≤ 1024 → gossip_answer c st topic ≡ Ok tt
   unfolding gossip_answer
   says-ids e h = rw (← e, le-ltb 1024 (length topic) h)
 
-  pub gossip_store : lent.BadStore ≡ lent_of c st → Tells c st topic windows gossip.BadStore 0 (replicate message_limit 0)
-  gossip_store e = untold gossip.BadStore (says-store e) (λ k. clash (cc))
+  pub gossip_fault : (why : Fault) → Err why ≡ lent_of c st
+      → Tells c st topic windows (Err (gossip.Faulty why)) 0 (replicate message_limit 0)
+  gossip_fault why e = untold (Err (gossip.Faulty why)) (says-fault why e) (λ k. clash (cc))
 
-  pub gossip_malformed : lent.Malformed ≡ lent_of c st → Tells c st topic windows gossip.Malformed 0 (replicate message_limit 0)
-  gossip_malformed e = untold gossip.Malformed (says-malformed e) (λ k. clash (cc))
-
-  pub gossip_long : lent.Fine ≡ lent_of c st → 1024 < length topic → Tells c st topic windows (gossip.TopicTooLong (length topic)) 0 (replicate
+  pub gossip_long : (Ok tt) ≡ lent_of c st → 1024 < length topic → Tells c st topic windows (Err (gossip.TopicTooLong (length topic))) 0 (replicate
       message_limit 0)
-  gossip_long e h = untold (gossip.TopicTooLong (length topic)) (says-long e h) (λ k. clash (cc))
+  gossip_long e h = untold (Err (gossip.TopicTooLong (length topic))) (says-long e h) (λ k. clash (cc))
 
-  pub gossip_told_lem : lent.Fine ≡ lent_of c st → length topic ≤ 1024 → (n : ℕ) (rows : List ℕ) → n ≡ length (gossip_list c st topic windows) → rows ≡
+  pub gossip_told_lem : (Ok tt) ≡ lent_of c st → length topic ≤ 1024 → (n : ℕ) (rows : List ℕ) → n ≡ length (gossip_list c st topic windows) → rows ≡
       gossip_array c st topic windows
-      → Tells c st topic windows gossip.Ids n rows
+      → Tells c st topic windows (Ok tt) n rows
   unfolding gossip_count gossip_rows
   gossip_told_lem e h n rows f g = let s = says-ids e h in record { answer = sym s; count = rw s f; rows = rw s g }
 
 -- ---- put
 -- what a plan says of the answer, the cache and the store
-abbrev Does : MessageCache → List ℕ → Plan → Put → MessageCache → List ℕ → Type 0
+abbrev Does : MessageCache → List ℕ → Plan → Result Kept PutError → MessageCache → List ℕ → Type 0
 Does c st plan a r s = (a ≡ answered plan) × ((r ≡ kept_in c plan) × (s ≡ stored_in c st plan))
 
-pub puts_no : (c : MessageCache) (st : List ℕ) (plan : Plan) (a : Put) → plan ≡ no a → Does c st plan a c st
-puts_no c st plan a e = (rw e, (rw e, rw e))
-
-pub puts_as : (c : MessageCache) (st : List ℕ) (plan other : Plan) (a : Put) (r : MessageCache) (s : List ℕ) → plan ≡ other → Does c st other a r s →
+pub puts_as : (c : MessageCache) (st : List ℕ) (plan other : Plan) (a : Result Kept PutError) (r : MessageCache) (s : List ℕ) → plan ≡ other → Does c st other a r s →
     Does c st plan a r s
 puts_as c st plan other a r s e p = (rw e p.0, (rw e p.1.0, rw e p.1.1))
 
@@ -331,49 +268,53 @@ pub put-done : (c : MessageCache) (st : List ℕ) (ed : Edition) (body : List �
     → Does c st (planned c st ed body i) r.answer r.cache left → Puts c st ed body i r left
 put-done c st ed body i r left p = record { answer = p.0; cache = p.1.0; store = p.1.1 }
 
+-- a refusal, with the cache as it was
+pub not-put : (c : MessageCache) (st : List ℕ) (plan : Plan) (why : PutError) (r : PutDone)
+    → r ≡ record { answer = Err why; cache = c } → plan ≡ no (Err why) → Does c st plan r.answer r.cache st
+not-put c st plan why r e p = (
+  ap (λ (d : PutDone). d.answer) e ∙ rw p,
+  (ap (λ (d : PutDone). d.cache) e ∙ rw p, rw p),
+)
+
 module _ (c : MessageCache) (p : List ℕ) where
-  pub plan_unfit : (why : Unfit) → admission.Unfit why ≡ admission_of c.flags p true → plan_fit c p (admission_of c.flags p true) ≡ no (put.Unfit why)
+  pub plan_unfit : (why : Unfit) → Err why ≡ admission_of c.flags p true → plan_fit c p (admission_of c.flags p true) ≡ no (Err (put.Unfit why))
   plan_unfit why e = rw (← e)
 
 module _ (c : MessageCache) (st : List ℕ) (ed : Edition) (body : List ℕ) (i : ℕ) where
-  pub plan_store : lent.BadStore ≡ lent_of c st → planned c st ed body i ≡ no put.BadStore
+  pub plan_fault : (why : Fault) → Err why ≡ lent_of c st → planned c st ed body i ≡ no (Err (put.Faulty why))
   unfolding planned
-  plan_store e = rw (← e)
+  plan_fault why e = rw (← e)
 
-  pub plan_malformed : lent.Malformed ≡ lent_of c st → planned c st ed body i ≡ no put.Malformed
-  unfolding planned
-  plan_malformed e = rw (← e)
-
-  pub plan_refused : {mode : Mode} (why : Refusal) → lent.Fine ≡ lent_of c st → mode ≡ mode_of c.flags
-      → checked.Refused why ≡ accept_of (spoken mode ed) body → planned c st ed body i ≡ no (put.Refused why)
+  pub plan_refused : {mode : Mode} (why : Refusal) → Ok tt ≡ lent_of c st → mode ≡ mode_of c.flags
+      → Err why ≡ accept_of (spoken mode ed) body → planned c st ed body i ≡ no (Err (put.Refused why))
   unfolding planned
   plan_refused why e m f = rw (← e, ← m, ← f)
 
-  pub plan_missing : {mode : Mode} (n : ℕ) → lent.Fine ≡ lent_of c st → mode ≡ mode_of c.flags
-      → checked.Fine ≡ accept_of (spoken mode ed) body → at.Count n ≡ message_at mode body i → planned c st ed body i ≡ no (put.NoMessage n)
+  pub plan_missing : {mode : Mode} (n : ℕ) → Ok tt ≡ lent_of c st → mode ≡ mode_of c.flags
+      → Ok tt ≡ accept_of (spoken mode ed) body → Err n ≡ message_at mode body i → planned c st ed body i ≡ no (Err (put.NoMessage n))
   unfolding planned
   plan_missing n e m f g = rw (← e, ← m, ← f, ← m, ← g)
 
-  pub plan_at_lem : {mode : Mode} (a b : ℕ) → lent.Fine ≡ lent_of c st → mode ≡ mode_of c.flags
-      → checked.Fine ≡ accept_of (spoken mode ed) body → at.At a b ≡ message_at mode body i
+  pub plan_at_lem : {mode : Mode} (a b : ℕ) → Ok tt ≡ lent_of c st → mode ≡ mode_of c.flags
+      → Ok tt ≡ accept_of (spoken mode ed) body → Ok (a, b) ≡ message_at mode body i
       → planned c st ed body i ≡ plan_fit c (between body a b) (admission_of c.flags (between body a b) true)
   unfolding planned
   plan_at_lem a b e m f g = rw (← e, ← m, ← f, ← m, ← g)
 
 -- ---- a state that was tested
-module _ (c : MessageCache) (st : List ℕ) (h : lent.Fine ≡ lent_of c st) (g : length c.generation ≡ message_limit) (w : length c.window ≡
+module _ (c : MessageCache) (st : List ℕ) (h : (Ok tt) ≡ lent_of c st) (g : length c.generation ≡ message_limit) (w : length c.window ≡
     message_limit) (l : length c.len ≡ message_limit) (i : length c.id_len ≡ message_limit) (r : length c.ids ≡ ids_size) (t : Roomy (table_of c))
   where
     pub tested : Usable c st
     tested = lent-kept c st (sym h) (record { generations = g; windows = w; lengths = l; id-lengths = i; id-room = r; topics = t })
 
-pub told_as : (c : MessageCache) (st topic : List ℕ) (windows : ℕ) (b : Gossip) (r : GossipIds) → (r.answer ≡ b) × ((r.count ≡ 0) × (r.rows ≡
+pub told_as : (c : MessageCache) (st topic : List ℕ) (windows : ℕ) (b : Result (Unit {0}) GossipError) (r : GossipIds) → (r.answer ≡ b) × ((r.count ≡ 0) × (r.rows ≡
     replicate message_limit 0))
     → Tells c st topic windows b 0 (replicate message_limit 0) → Gossips c st topic windows r
 told_as c st topic windows b r e t = record { answer = e.0 ∙ t.answer; count = e.1.0 ∙ t.count; rows = e.1.1 ∙ t.rows }
 
 -- ---- the id of a message that may be taken
-module _ (flags : ℕ) (p : List ℕ) (a e b f : ℕ) (h : admission_of flags p true ≡ admission.Fit a e b f) where
+module _ (flags : ℕ) (p : List ℕ) (a e b f : ℕ) (h : admission_of flags p true ≡ Ok ((a, e), (b, f))) where
   module _ (n : ℕ) (first out : List ℕ) (z : length first ≡ message_id_size) (forms : Forms p a e b f first n out) where
     k : (n ≡ length (id_bytes p a e b f)) × (out ≡ sets first 0 (id_bytes p a e b f))
     k = form-fit flags p true a e b f first n out h (omega (arith, fit-id flags p true a e b f h)) forms
@@ -402,9 +343,10 @@ module _ (flags : ℕ) (p : List ℕ) (a e b f : ℕ) (h : admission_of flags p 
 
 -- ---- a message under its id
 module _ (c : MessageCache) (st m id : List ℕ) where
-  pub kept-not : keepable (ring_of c) (length st) (length m) (length id) ≡ false → Keeps c st m id (record { answer = put.Malformed; cache = c }) st
+  pub kept-not : (r : PutDone) → r ≡ record { answer = Err (put.Faulty fault.Malformed); cache = c }
+      → keepable (ring_of c) (length st) (length m) (length id) ≡ false → Keeps c st m id r st
   unfolding plan_kept
-  kept-not h = record { answer = rw h; cache = rw h; store = rw h }
+  kept-not r e h = rw e (record { answer = rw h; cache = rw h; store = rw h })
 
   module _ (g : keepable (ring_of c) (length st) (length m) (length id) ≡ true) where
     pub kept-placed : length c.generation ≡ message_limit → length c.window ≡ message_limit → length c.len ≡ message_limit → length c.id_len ≡
@@ -430,7 +372,7 @@ module _ (c : MessageCache) (st m id : List ℕ) where
     kept-short = let k = when_keeps (ring_of c) (length st) (length m) (length id) g in (k.2, k.3)
 
     module _ (r : ℕ) (e : r ≡ index_in c id) where
-      pub under-held : r < c.count → Keeps c st m id (record { answer = put.Held; cache = c }) st
+      pub under-held : r < c.count → Keeps c st m id (record { answer = Ok kept.Held; cache = c }) st
       unfolding plan_kept
       under-held h = let t = lt-ltb (index_in c id) c.count (omega (arith, e)) in record {
         answer = rw (g, t);
@@ -439,7 +381,7 @@ module _ (c : MessageCache) (st m id : List ℕ) where
       }
 
       pub under-new : c.count ≤ r → (d : MessageCache) (st2 : List ℕ) → (d ≡ entered m id c) × (st2 ≡ entered_store c st m)
-          → Keeps c st m id (record { answer = put.Stored; cache = d }) st2
+          → Keeps c st m id (record { answer = Ok kept.Stored; cache = d }) st2
       unfolding plan_kept
       under-new h d st2 w = let t = le-ltb (index_in c id) c.count (omega (arith, e)) in record {
         answer = rw (g, t);
@@ -449,10 +391,10 @@ module _ (c : MessageCache) (st m id : List ℕ) where
 
 -- ---- the id in a place
 module _ (c : MessageCache) (row : ℕ) (out id : List ℕ) (e : id ≡ id_at message_id_size c.id_len c.ids row) where
-  pub id-room : length out < length id → WritesId c row out (written.Room (length id)) out
+  pub id-room : length out < length id → WritesId c row out (Err (no_room (length id))) out
   id-room h = record { answer = rw (← e) (sym (answer-short id out h)); buffer = rw (← e) (sym (written-short id out h)) }
 
-  pub id_wrote : length id ≤ length out → (left : List ℕ) → left ≡ set_in (length id) 0 id out → WritesId c row out (written.Bytes (length id)) left
+  pub id_wrote : length id ≤ length out → (left : List ℕ) → left ≡ set_in (length id) 0 id out → WritesId c row out (Ok (length id)) left
   id_wrote h left f =
       record {
         answer = rw (← e) (sym (answer-fits id out h));

@@ -1,5 +1,6 @@
 -- The steps on the rows, as the code makes them.
-use Rattle.std.proofs.Common.{◌≡◌, ℕ, ◌+◌, ◌-◌, ◌*◌, ◌%◌, ◌^◌, ◌<◌, ◌≤◌, true, false, leb, List, ◌++◌, map, length, drop, set, replicate, sym, refl, ap, ◌∙◌, subst, zero-add, arith, le-ltb, lt-ltb, eq-eqb, ne_eqb, le-leb}
+use Rattle.std.specs.Prelude.{Ok, Err}
+use Rattle.std.proofs.Common.{◌≡◌, ℕ, ◌+◌, ◌-◌, ◌*◌, ◌%◌, ◌^◌, ◌<◌, ◌≤◌, true, false, leb, List, ◌++◌, map, length, drop, set, replicate, sym, ap, ◌∙◌, subst, zero-add, arith, eq-eqb, ne_eqb, le-leb}
 use lib.Seq.{sets}
 use borrow.Author.Tests.{lt-leb}
 use Rattle.basis.specs.Dialect.{mode_of}
@@ -13,9 +14,9 @@ use Rattle.rows.specs.Store.{ids_in, in_use}
 use Rattle.admission.specs.Admission.{starts_of, sizes_of}
 use Rattle.admission.specs.Flags.{known_flags}
 use Rattle.mcache.specs.declared.MessageCache.{MessageCache}
-use Rattle.mcache.specs.declared.Start.TheVariants as start
-use Rattle.mcache.specs.declared.Gossip.TheVariants as gossip
 use Rattle.mcache.specs.declared.GossipIds.{GossipIds}
+use Rattle.basis.specs.declared.Fault.TheVariants as fault
+use Rattle.mcache.specs.declared.GossipError.TheVariants as gossip
 use Rattle.mcache.specs.State.{Placed, Found, legal, fresh, dropped, appended, passed, aged, older, stale, message_size, message_id_size, message_limit, max_history, ring_of, max_topics, kept_places, noted}
 use Rattle.mcache.specs.Calls.{start_answer, start_cache, index_in, entered, entered_store, shifted, gossip_list, gossip_array, rows_lie, tell_answer, tell_count, tell_rows}
 use Rattle.mcache.specs.Unique.{TellsRows}
@@ -24,7 +25,7 @@ use Rattle.mcache.specs.CachedLaws.{stale_in}
 -- ---- start
 module _ (history max flags : ℕ) where
   abbrev Refuses : Type 0
-  Refuses = (start.BadSetting ≡ start_answer history max flags) × (fresh 1 0 0 ≡ start_cache history max flags)
+  Refuses = (Err fault.BadSetting ≡ start_answer history max flags) × (fresh 1 0 0 ≡ start_cache history max flags)
 
   pub start_none : history ≡ 0 → Refuses
   unfolding start_answer start_cache legal
@@ -52,7 +53,7 @@ module _ (history max flags : ℕ) where
         start-unknown u = let j = le-leb max message_limit m in (simp (some, few, j, u), simp (some, few, j, u))
 
         pub start_fits : known_flags flags ≡ true
-            → (start.Started ≡ start_answer history max flags) × (fresh history max flags ≡ start_cache history max flags)
+            → (Ok tt ≡ start_answer history max flags) × (fresh history max flags ≡ start_cache history max flags)
         unfolding start_answer start_cache legal
         start_fits u = let j = le-leb max message_limit m in (simp (some, few, j, u), simp (some, few, j, u))
 
@@ -238,7 +239,7 @@ told-rows c st topic windows n rows l e f g = (rw (← e) f, rw (← e) (g ∙ a
 module _ (c : MessageCache) (st topic : List ℕ) (windows : ℕ) where
   pub tells-rows : (n : ℕ) (rows l : List ℕ) → rows_lie (ring_of c) ≡ true → l ≡ gossip_list c st topic windows → n ≡ length l → rows ≡ l ++ drop n
       (replicate message_limit 0)
-      → TellsRows c st topic windows (record { answer = gossip.Ids; count = n; rows = rows })
+      → TellsRows c st topic windows (record { answer = Ok tt; count = n; rows = rows })
   unfolding tell_answer tell_count tell_rows
   tells-rows n rows l h e f g = let q = told-rows c st topic windows n rows l e f g in record {
     answer = rw h;
@@ -246,7 +247,7 @@ module _ (c : MessageCache) (st topic : List ℕ) (windows : ℕ) where
     rows = rw h q.1;
   }
 
-  pub tells_none : (r : GossipIds) → rows_lie (ring_of c) ≡ false → (r.answer ≡ gossip.Malformed) × ((r.count ≡ 0) × (r.rows ≡ replicate message_limit
+  pub tells_none : (r : GossipIds) → rows_lie (ring_of c) ≡ false → (r.answer ≡ Err (gossip.Faulty fault.Malformed)) × ((r.count ≡ 0) × (r.rows ≡ replicate message_limit
       0)) → TellsRows c st topic windows r
   unfolding tell_answer tell_count tell_rows
   tells_none r h e = record { answer = rw h e.0; count = rw h e.1.0; rows = rw h e.1.1 }

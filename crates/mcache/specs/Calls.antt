@@ -1,75 +1,71 @@
 -- What each call on the message cache answers and leaves. Refusals come in the order of the scope's table: 40 at the
 -- start; 41, 42; then for `put` 10, 1 to 7 and 14 to 16, 11, 20, 21, 22, 34, 23 to 26, 35, 36, 28, 29, 30, and for
 -- `gossip_ids` 29. A refused call leaves the cache and the store as they were.
-use Rattle.std.specs.Prelude.{ℕ, ◌+◌, ◌-◌, ◌*◌, Bool, true, cond, ◌&&◌, List, [], ◌∷◌, ◌++◌, length, drop, replicate, ◌==◌, nat_le, nat_lt, slice_index}
+use Rattle.std.specs.Prelude.{Result, Ok, Err, ℕ, ◌+◌, ◌-◌, ◌*◌, Bool, true, cond, ◌&&◌, List, [], ◌++◌}
+use Rattle.std.specs.Prelude.{length, drop, replicate, ◌==◌, nat_le, nat_lt, slice_index}
+use Rattle.std.specs.Result.{result_and}
 use Rattle.std.proofs.lemmas.List.Edits.{sets}
+use Rattle.basis.specs.Told.{fine_told}
 use Rattle.basis.specs.declared.Edition.{Edition}
 use Rattle.basis.specs.Dialect.{mode_of, spoken}
 use Rattle.rows.specs.declared.Ring.{Ring}
 use Rattle.rows.specs.Rows.{place_of, rows_in}
 use Rattle.rows.specs.Ids.{index_of}
 use Rattle.rows.specs.Store.{id_at, ids_in, in_use}
-use Rattle.protobuf.specs.declared.Checked.{Checked}
-use Rattle.protobuf.specs.declared.Checked.TheVariants as checked
 use Rattle.protobuf.specs.Walk.{between}
-use Rattle.ids.specs.declared.MessageAt.{MessageAt}
-use Rattle.ids.specs.declared.MessageAt.TheVariants as at
 use Rattle.schema.specs.Accept.{accept_of}
 use Rattle.ids.specs.Ids.{message_at, id_bytes}
-use Rattle.admission.specs.declared.Admission.{Admission}
-use Rattle.admission.specs.declared.Admission.TheVariants as admission
 use Rattle.admission.specs.Admission.{admission_of}
 use Rattle.mcache.specs.declared.MessageCache.{MessageCache}
-use Rattle.mcache.specs.declared.Lent.{Lent}
-use Rattle.mcache.specs.declared.Lent.TheVariants as lent
-use Rattle.mcache.specs.declared.Start.{Start}
-use Rattle.mcache.specs.declared.Start.TheVariants as start
-use Rattle.mcache.specs.declared.Put.{Put}
-use Rattle.mcache.specs.declared.Put.TheVariants as put
-use Rattle.mcache.specs.declared.Lookup.{Lookup}
-use Rattle.mcache.specs.declared.Lookup.TheVariants as lookup
-use Rattle.mcache.specs.declared.Gossip.{Gossip}
-use Rattle.mcache.specs.declared.Gossip.TheVariants as gossip
 use Rattle.mcache.specs.declared.Offer.{Offer}
 use Rattle.mcache.specs.declared.Offer.TheVariants as offer
+use Rattle.protobuf.specs.declared.Refusal.{Refusal}
+use Rattle.admission.specs.declared.Unfit.{Unfit}
+use Rattle.basis.specs.declared.Fault.TheVariants as fault
+use Rattle.basis.specs.declared.Fault.{Fault}
+use Rattle.mcache.specs.declared.GossipError.TheVariants as gossip
+use Rattle.mcache.specs.declared.GossipError.{GossipError}
+use Rattle.mcache.specs.declared.Kept.TheVariants as kept
+use Rattle.mcache.specs.declared.Kept.{Kept}
+use Rattle.mcache.specs.declared.PutError.TheVariants as put
+use Rattle.mcache.specs.declared.PutError.{PutError}
 use Rattle.mcache.specs.Messages.{offer_for}
-use Rattle.mcache.specs.Told.{lent_told, start_told, put_told, lookup_told, gossip_told}
+use Rattle.mcache.specs.Told.{put_told, lookup_told, gossip_told}
 use Rattle.mcache.specs.State.{message_in, legal, well_formed, fresh, dropped, appended, passed, aged, stale, told}
 use Rattle.mcache.specs.State.{has_topic, gather_into, message_size, message_id_size, message_limit, ring_of, table_of}
 
 -- ---- the scope's numbers
-abbrev pub lent_number : Lent → ℕ
-lent_number r = (lent_told r).number
+abbrev pub lent_number : Result (Unit {0}) Fault → ℕ
+lent_number r = (fine_told r).number
 
-abbrev pub start_number : Start → ℕ
-start_number r = (start_told r).number
+abbrev pub start_number : Result (Unit {0}) Fault → ℕ
+start_number r = (fine_told r).number
 
-abbrev pub put_number : Put → ℕ
+abbrev pub put_number : Result Kept PutError → ℕ
 put_number r = (put_told r).number
 
-abbrev pub lookup_number : Lookup → ℕ
+abbrev pub lookup_number : Result Bool Fault → ℕ
 lookup_number r = (lookup_told r).number
 
-abbrev pub gossip_number : Gossip → ℕ
+abbrev pub gossip_number : Result (Unit {0}) GossipError → ℕ
 gossip_number r = (gossip_told r).number
 
 -- ---- start: 40
-unfoldable pub start_answer : ℕ → ℕ → ℕ → Start
-start_answer history max flags = cond (legal history max flags) start.Started start.BadSetting
+unfoldable pub start_answer : ℕ → ℕ → ℕ → Result (Unit {0}) Fault
+start_answer history max flags = cond (legal history max flags) (Ok tt) (Err fault.BadSetting)
 
 -- where the settings are refused, a cache that keeps nothing
 unfoldable pub start_cache : ℕ → ℕ → ℕ → MessageCache
 start_cache history max flags = cond (legal history max flags) (fresh history max flags) (fresh 1 0 0)
 
 -- ---- the lent state: 41, 42
-unfoldable pub lent_of : MessageCache → List ℕ → Lent
-lent_of c st = cond (length st == c.max_messages * message_size) (cond (well_formed c st) lent.Fine lent.Malformed)
-    lent.BadStore
+unfoldable pub lent_of : MessageCache → List ℕ → Result (Unit {0}) Fault
+lent_of c st = cond (length st == c.max_messages * message_size) (cond (well_formed c st) (Ok tt) (Err fault.Malformed))
+    (Err fault.BadStore)
 
-abbrev pub when_fine : {A : Type 0} → Lent → A → A → A
-when_fine lent.Fine new old = new
-when_fine lent.BadStore new old = old
-when_fine lent.Malformed new old = old
+abbrev pub when_fine : {A : Type 0} → Result (Unit {0}) Fault → A → A → A
+when_fine (Ok _) new old = new
+when_fine (Err _) new old = old
 
 -- ---- the calls on a state that was tested
 -- which row holds an id, counted from the oldest; the count of rows where none does
@@ -107,12 +103,12 @@ gossip_array c st topic windows = gossip_list c st topic windows ++ drop (length
 -- ---- put
 -- what a put is to do: keep a message under an id; or nothing, and answer so
 pub data Plan : Type 0 where
-  no : Put → Plan
+  no : Result Kept PutError → Plan
   keep : List ℕ → List ℕ → Plan
 
-abbrev pub answered : Plan → Put
+abbrev pub answered : Plan → Result Kept PutError
 answered (no r) = r
-answered (keep m id) = put.Stored
+answered (keep m id) = Ok kept.Stored
 
 abbrev pub kept_in : MessageCache → Plan → MessageCache
 kept_in c (no r) = c
@@ -124,7 +120,7 @@ stored_in c st (keep m id) = entered_store c st m
 
 -- a message under its id: a held id changes nothing
 abbrev pub plan_under : MessageCache → List ℕ → List ℕ → Plan
-plan_under c m id = cond (nat_lt (index_in c id) c.count) (no put.Held) (keep m id)
+plan_under c m id = cond (nat_lt (index_in c id) c.count) (no (Ok kept.Held)) (keep m id)
 
 unfoldable pub kept_under : List ℕ → List ℕ → MessageCache → MessageCache
 kept_under m id c = kept_in c (plan_under c m id)
@@ -143,10 +139,12 @@ keepable ring s m i =
     rows_lie ring && (s == ring.cap * message_size && (nat_le m message_size && nat_le i message_id_size))
 
 unfoldable pub plan_kept : MessageCache → List ℕ → List ℕ → List ℕ → Plan
-plan_kept c st m id = cond (keepable (ring_of c) (length st) (length m) (length id)) (plan_under c m id) (no put.Malformed)
+plan_kept c st m id =
+    cond (keepable (ring_of c) (length st) (length m) (length id)) (plan_under c m id)
+    (no (Err (put.Faulty fault.Malformed)))
 
-unfoldable pub tell_answer : MessageCache → Gossip
-tell_answer c = cond (rows_lie (ring_of c)) gossip.Ids gossip.Malformed
+unfoldable pub tell_answer : MessageCache → Result (Unit {0}) GossipError
+tell_answer c = cond (rows_lie (ring_of c)) (Ok tt) (Err (gossip.Faulty fault.Malformed))
 
 unfoldable pub tell_count : MessageCache → List ℕ → List ℕ → ℕ → ℕ
 tell_count c st topic windows = cond (rows_lie (ring_of c)) (length (gossip_list c st topic windows)) 0
@@ -177,25 +175,24 @@ unfoldable pub form_left : List ℕ → ℕ → ℕ → ℕ → ℕ → List ℕ
 form_left part a e b f out = cond (formable (length part) a e b f (length out)) (sets out 0 (id_bytes part a e b f)) out
 
 -- a message p: 21 to 30 and 34 to 36 without 27; 25 where the flags do not allow unsigned messages
-abbrev pub plan_fit : MessageCache → List ℕ → Admission → Plan
-plan_fit c p (admission.Unfit why) = no (put.Unfit why)
-plan_fit c p (admission.Fit a e b f) = plan_under c p (id_bytes p a e b f)
+abbrev pub plan_fit : MessageCache → List ℕ → Result ((ℕ × ℕ) × (ℕ × ℕ)) Unfit → Plan
+plan_fit c p (Err why) = no (Err (put.Unfit why))
+plan_fit c p (Ok ((a, e), (b, f))) = plan_under c p (id_bytes p a e b f)
 
 -- 20
-abbrev pub plan_at : MessageCache → List ℕ → MessageAt → Plan
-plan_at c body (at.Count n) = no (put.NoMessage n)
-plan_at c body (at.At a e) = plan_fit c (between body a e) (admission_of c.flags (between body a e) true)
+abbrev pub plan_at : MessageCache → List ℕ → Result (ℕ × ℕ) ℕ → Plan
+plan_at c body (Err n) = no (Err (put.NoMessage n))
+plan_at c body (Ok (a, e)) = plan_fit c (between body a e) (admission_of c.flags (between body a e) true)
 
 -- 10, 1 to 7 and 14 to 16, 11
-abbrev pub plan_body : MessageCache → List ℕ → ℕ → Checked → Plan
-plan_body c body i (checked.Refused why) = no (put.Refused why)
-plan_body c body i checked.Fine = plan_at c body (message_at (mode_of c.flags) body i)
+abbrev pub plan_body : MessageCache → List ℕ → ℕ → Result (Unit {0}) Refusal → Plan
+plan_body c body i (Err why) = no (Err (put.Refused why))
+plan_body c body i (Ok tt) = plan_at c body (message_at (mode_of c.flags) body i)
 
 -- 41, 42
-abbrev pub plan_lent : Lent → Plan → Plan
-plan_lent lent.Fine r = r
-plan_lent lent.BadStore r = no put.BadStore
-plan_lent lent.Malformed r = no put.Malformed
+abbrev pub plan_lent : Result (Unit {0}) Fault → Plan → Plan
+plan_lent (Ok _) r = r
+plan_lent (Err why) r = no (Err (put.Faulty why))
 
 -- the body is read in the edition of the call and in the mode of the cache
 unfoldable pub planned : MessageCache → List ℕ → Edition → List ℕ → ℕ → Plan
@@ -209,29 +206,21 @@ shift_cache c st = when_fine (lent_of c st) (shifted c) c
 unfoldable pub get_part : MessageCache → List ℕ → List ℕ → List ℕ
 get_part c st id = when_fine (lent_of c st) (found c st id) []
 
-abbrev pub lookup_on : Lent → Lookup → Lookup
-lookup_on lent.Fine r = r
-lookup_on lent.BadStore r = lookup.BadStore
-lookup_on lent.Malformed r = lookup.Malformed
-
-unfoldable pub lookup_answer : MessageCache → List ℕ → List ℕ → Lookup
-lookup_answer c st id = lookup_on (lent_of c st) (cond (nat_lt (index_in c id) c.count) lookup.Found lookup.Missing)
+unfoldable pub lookup_answer : MessageCache → List ℕ → List ℕ → Result Bool Fault
+lookup_answer c st id = result_and (lent_of c st) (Ok (nat_lt (index_in c id) c.count))
 
 -- ---- gossip_ids: 41, 42, 29
-abbrev pub gossip_on : Lent → Gossip → Gossip
-gossip_on lent.Fine r = r
-gossip_on lent.BadStore r = gossip.BadStore
-gossip_on lent.Malformed r = gossip.Malformed
+abbrev pub gossip_on : Result (Unit {0}) Fault → Result (Unit {0}) GossipError → Result (Unit {0}) GossipError
+gossip_on (Ok _) r = r
+gossip_on (Err why) r = Err (gossip.Faulty why)
 
-unfoldable pub gossip_answer : MessageCache → List ℕ → List ℕ → Gossip
+unfoldable pub gossip_answer : MessageCache → List ℕ → List ℕ → Result (Unit {0}) GossipError
 gossip_answer c st topic =
-    gossip_on (lent_of c st) (cond (nat_lt 1024 (length topic)) (gossip.TopicTooLong (length topic)) gossip.Ids)
+    gossip_on (lent_of c st) (cond (nat_lt 1024 (length topic)) (Err (gossip.TopicTooLong (length topic))) (Ok tt))
 
-abbrev pub when_told : {A : Type 0} → Gossip → A → A → A
-when_told gossip.Ids x y = x
-when_told gossip.BadStore x y = y
-when_told gossip.Malformed x y = y
-when_told (gossip.TopicTooLong n) x y = y
+abbrev pub when_told : {A : Type 0} → Result (Unit {0}) GossipError → A → A → A
+when_told (Ok _) x y = x
+when_told (Err _) x y = y
 
 unfoldable pub gossip_count : MessageCache → List ℕ → List ℕ → ℕ → ℕ
 gossip_count c st topic windows = when_told (gossip_answer c st topic) (length (gossip_list c st topic windows)) 0

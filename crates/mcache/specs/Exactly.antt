@@ -1,6 +1,7 @@
 -- 40, 41 and 42 of the message cache, each exactly where the scope's table has it, and 29 of `gossip_ids`: by their
 -- numbers, over the answer of the call itself. `lookup` says why `get` gave what it gave.
-use Rattle.std.specs.Prelude.{◌≡◌, ℕ, ◌*◌, ◌<◌, true, cond, ◌⊎◌, ◌↔◌, List, [], ◌∷◌, length, ◌==◌, ◌≢◌, nat_le, nat_lt}
+use Rattle.std.specs.Prelude.{Bool, Result, Ok, Err, ◌≡◌, ℕ, ◌*◌, ◌<◌, true, cond, ◌⊎◌, ◌↔◌, List, [], ◌∷◌, length, ◌==◌, ◌≢◌, nat_le, nat_lt}
+use Rattle.std.specs.Result.{result_and}
 use Rattle.std.proofs.Math.Path.{refl}
 use Rattle.std.proofs.Common.{sym, ◌∙◌, inl, inr, ⊎_elim, arith}
 use borrow.Author.Tests.{leb-true, leb-false, ltb-true, ltb-false, eqb-true, eq-eqb}
@@ -8,17 +9,11 @@ use Rattle.basis.specs.declared.Edition.{Edition}
 use Rattle.basis.specs.Dialect.{mode_of, spoken}
 use Rattle.basis.specs.Cases.{either, clash}
 use Rattle.basis.specs.Refusals.{bad_setting, bad-store, malformed, topic-too_long}
-use Rattle.basis.specs.Told.{told}
-use Rattle.protobuf.specs.declared.Checked.{Checked}
-use Rattle.protobuf.specs.declared.Checked.TheVariants as checked
+use Rattle.basis.specs.Told.{told, fault_told}
 use Rattle.protobuf.specs.RefusalLaws.{wire_range}
 use Rattle.protobuf.specs.Walk.{between}
-use Rattle.ids.specs.declared.MessageAt.{MessageAt}
-use Rattle.ids.specs.declared.MessageAt.TheVariants as at
 use Rattle.ids.specs.Ids.{message_at, id_bytes}
 use Rattle.schema.specs.Accept.{accept_of}
-use Rattle.admission.specs.declared.Admission.{Admission}
-use Rattle.admission.specs.declared.Admission.TheVariants as admission
 use Rattle.admission.specs.Admission.{admission_of}
 use Rattle.admission.specs.AdmissionLaws.{unfit_range}
 use Rattle.admission.specs.Flags.{max_flags, known_flags}
@@ -27,17 +22,17 @@ use Rattle.mcache.specs.declared.Started.{Started}
 use Rattle.mcache.specs.declared.PutDone.{PutDone}
 use Rattle.mcache.specs.declared.Shifted.{Shifted}
 use Rattle.mcache.specs.declared.GossipIds.{GossipIds}
-use Rattle.mcache.specs.declared.Lent.{Lent}
-use Rattle.mcache.specs.declared.Lent.TheVariants as lent
-use Rattle.mcache.specs.declared.Lookup.{Lookup}
-use Rattle.mcache.specs.declared.Lookup.TheVariants as lookup
-use Rattle.mcache.specs.declared.Gossip.{Gossip}
-use Rattle.mcache.specs.declared.Gossip.TheVariants as gossip
+use Rattle.protobuf.specs.declared.Refusal.{Refusal}
+use Rattle.admission.specs.declared.Unfit.{Unfit}
+use Rattle.basis.specs.declared.Fault.TheVariants as fault
+use Rattle.basis.specs.declared.Fault.{Fault}
+use Rattle.mcache.specs.declared.GossipError.TheVariants as gossip
+use Rattle.mcache.specs.declared.GossipError.{GossipError}
 use Rattle.mcache.specs.Told.{gossip_told}
 use Rattle.mcache.specs.State.{legal, well_formed, message_size, message_limit, max_history}
 use Rattle.mcache.specs.Calls.{start_number, lent_number, put_number, lookup_number, gossip_number, start_answer}
 use Rattle.mcache.specs.Calls.{lent_of, index_in, Plan, answered, plan_under, plan_fit, plan_at, plan_body}
-use Rattle.mcache.specs.Calls.{plan_lent, planned, lookup_on, lookup_answer, gossip_on, gossip_answer}
+use Rattle.mcache.specs.Calls.{plan_lent, planned, lookup_answer, gossip_on, gossip_answer}
 use Rattle.mcache.specs.WellFormed.{Typed, WellFormed}
 use Rattle.mcache.specs.WellFormedLaws.{fine-well_formed, well_formed-fine}
 use Rattle.mcache.specs.Unique.{Starts, Puts, Shifts, Gossips}
@@ -73,8 +68,8 @@ pub bad_setting_exactly : (history max flags : ℕ) (r : Started) → Starts his
 bad_setting_exactly history max flags r s = rw s.answer (start-exactly history max flags)
 
 -- what a tested state answers of a topic
-abbrev by_topic : List ℕ → Gossip
-by_topic topic = cond (nat_lt 1024 (length topic)) (gossip.TopicTooLong (length topic)) gossip.Ids
+abbrev by_topic : List ℕ → Result (Unit {0}) GossipError
+by_topic topic = cond (nat_lt 1024 (length topic)) (Err (gossip.TopicTooLong (length topic))) (Ok tt)
 
 -- ---- 41 and 42: what the number of an answer says of the lent cache and store
 pub record Exactly (c : MessageCache) (st : List ℕ) (n : ℕ) : Type 0 where
@@ -84,28 +79,36 @@ pub record Exactly (c : MessageCache) (st : List ℕ) (n : ℕ) : Type 0 where
   pub ill_formed : (n ≡ malformed) ↔ ((length st ≡ c.max_messages * message_size) × (WellFormed c st → ⊥))
 
 module _ (c : MessageCache) (st : List ℕ) where
-  other_length : lent_of c st ≡ lent.BadStore → length st ≢ c.max_messages * message_size
+  other_length : lent_of c st ≡ Err fault.BadStore → length st ≢ c.max_messages * message_size
   unfolding lent_of
   other_length e h =
       either (well_formed c st)
       (λ u. clash (let z = simp (eq-eqb (length st) (c.max_messages * message_size) h, u) at e in cc))
       (λ u. clash (let z = simp (eq-eqb (length st) (c.max_messages * message_size) h, u) at e in cc))
 
-  right_length : (lent_of c st ≢ lent.BadStore) → length st ≡ c.max_messages * message_size
+  right_length : (lent_of c st ≢ (Err fault.BadStore)) → length st ≡ c.max_messages * message_size
   unfolding lent_of
   right_length n =
       either (length st == c.max_messages * message_size)
       (λ t. eqb-true (length st) (c.max_messages * message_size) t) (λ t. absurd (n (simp t)))
 
+  never-setting : lent_of c st ≢ Err fault.BadSetting
+  unfolding lent_of
+  never-setting e =
+      either (length st == c.max_messages * message_size)
+      (λ t. either (well_formed c st) (λ u. clash (let z = simp (t, u) at e in cc))
+      (λ u. clash (let z = simp (t, u) at e in cc)))
+      (λ t. clash (let z = simp t at e in cc))
+
   module _ (y : Typed c) where
-    store-says : lent_of c st ≡ lent.BadStore → Exactly c st bad-store
+    store-says : lent_of c st ≡ Err fault.BadStore → Exactly c st bad-store
     store-says e =
         record {
           wrong_length = (λ n. other_length e, λ n. refl);
           ill_formed = (λ n. absurd (omega arith), λ w. absurd (other_length e w.0));
         }
 
-    malformed-says : lent_of c st ≡ lent.Malformed → Exactly c st malformed
+    malformed-says : lent_of c st ≡ Err fault.Malformed → Exactly c st malformed
     malformed-says e =
         let l = right_length (λ b. clash (let z = sym e ∙ b in cc)) in
         record {
@@ -113,7 +116,12 @@ module _ (c : MessageCache) (st : List ℕ) where
           ill_formed = (λ n. (l, λ w. clash (let z = sym e ∙ well_formed-fine c st w in cc)), λ w. refl);
         }
 
-    fine-says : (n : ℕ) → lent_of c st ≡ lent.Fine → n < bad_setting → Exactly c st n
+    fault-says : (why : Fault) → lent_of c st ≡ Err why → Exactly c st (fault_told why).number
+    fault-says fault.BadSetting e = absurd (never-setting e)
+    fault-says fault.BadStore e = store-says e
+    fault-says fault.Malformed e = malformed-says e
+
+    fine-says : (n : ℕ) → lent_of c st ≡ Ok tt → n < bad_setting → Exactly c st n
     fine-says n e h =
         let w = fine-well_formed c st y e in
         record {
@@ -122,10 +130,9 @@ module _ (c : MessageCache) (st : List ℕ) where
         }
 
     -- ---- lent and shift
-    by-lent : (l : Lent) → lent_of c st ≡ l → Exactly c st (lent_number l)
-    by-lent lent.Fine e = fine-says 0 e (omega arith)
-    by-lent lent.BadStore e = store-says e
-    by-lent lent.Malformed e = malformed-says e
+    by-lent : (l : Result (Unit {0}) Fault) → lent_of c st ≡ l → Exactly c st (lent_number l)
+    by-lent (Ok tt) e = fine-says 0 e (omega arith)
+    by-lent (Err why) e = fault-says why e
 
     pub lent-exactly : Exactly c st (lent_number (lent_of c st))
     lent-exactly = by-lent (lent_of c st) refl
@@ -134,24 +141,22 @@ module _ (c : MessageCache) (st : List ℕ) where
     shift-lent-exactly r s = rw s.answer lent-exactly
 
     -- ---- get, and why
-    by_lookup : (l : Lent) (r : Lookup) → lookup_number r ≡ 0 → lent_of c st ≡ l
-        → Exactly c st (lookup_number (lookup_on l r))
-    by_lookup lent.Fine r z e = fine-says (lookup_number r) e (omega arith)
-    by_lookup lent.BadStore r z e = store-says e
-    by_lookup lent.Malformed r z e = malformed-says e
+    by_lookup : (l : Result (Unit {0}) Fault) (r : Result Bool Fault) → lookup_number r ≡ 0 → lent_of c st ≡ l
+        → Exactly c st (lookup_number (result_and l r))
+    by_lookup (Ok tt) r z e = fine-says (lookup_number r) e (omega arith)
+    by_lookup (Err why) r z e = fault-says why e
 
     pub lookup_lent-exactly : (id : List ℕ) → Exactly c st (lookup_number (lookup_answer c st id))
     unfolding lookup_answer
     lookup_lent-exactly id =
-        by_lookup (lent_of c st) (cond (nat_lt (index_in c id) c.count) lookup.Found lookup.Missing)
+        by_lookup (lent_of c st) (Ok (nat_lt (index_in c id) c.count))
         (either (nat_lt (index_in c id) c.count) (λ t. simp t) (λ t. simp t)) refl
 
     -- ---- gossip_ids
-    by_gossip : (l : Lent) (r : Gossip) → gossip_number r < bad_setting → lent_of c st ≡ l
-        → Exactly c st (gossip_number (gossip_on l r))
-    by_gossip lent.Fine r z e = fine-says (gossip_number r) e z
-    by_gossip lent.BadStore r z e = store-says e
-    by_gossip lent.Malformed r z e = malformed-says e
+    by_gossip : (l : Result (Unit {0}) Fault) (r : Result (Unit {0}) GossipError) → gossip_number r < bad_setting
+        → lent_of c st ≡ l → Exactly c st (gossip_number (gossip_on l r))
+    by_gossip (Ok tt) r z e = fine-says (gossip_number r) e z
+    by_gossip (Err why) r z e = fault-says why e
 
     answer-exactly : (topic : List ℕ) → Exactly c st (gossip_number (gossip_answer c st topic))
     unfolding gossip_answer
@@ -163,30 +168,34 @@ module _ (c : MessageCache) (st : List ℕ) where
         → Exactly c st (gossip_number r.answer)
     gossip_lent-exactly topic windows r s = rw s.answer (answer-exactly topic)
 
+no_topic : (why : Fault) → (fault_told why).number ≢ topic-too_long
+no_topic fault.BadSetting e = omega arith
+no_topic fault.BadStore e = omega arith
+no_topic fault.Malformed e = omega arith
+
 -- ---- put: what comes after the test of the state has other numbers
 module _ (c : MessageCache) where
   under_low : (m id : List ℕ) → put_number (answered (plan_under c m id)) < bad_setting
   under_low m id =
       either (nat_lt (index_in c id) c.count) (λ t. simp t (omega arith)) (λ t. simp t (omega arith))
 
-  fit_low : (p : List ℕ) (r : Admission) → put_number (answered (plan_fit c p r)) < bad_setting
-  fit_low p (admission.Unfit why) = omega (arith, (unfit_range why).1)
-  fit_low p (admission.Fit a e b f) = under_low p (id_bytes p a e b f)
+  fit_low : (p : List ℕ) (r : Result ((ℕ × ℕ) × (ℕ × ℕ)) Unfit) → put_number (answered (plan_fit c p r)) < bad_setting
+  fit_low p (Err why) = omega (arith, (unfit_range why).1)
+  fit_low p (Ok ((a, e), (b, f))) = under_low p (id_bytes p a e b f)
 
-  at_low : (body : List ℕ) (r : MessageAt) → put_number (answered (plan_at c body r)) < bad_setting
-  at_low body (at.Count n) = omega arith
-  at_low body (at.At a e) = fit_low (between body a e) (admission_of c.flags (between body a e) true)
+  at_low : (body : List ℕ) (r : Result (ℕ × ℕ) ℕ) → put_number (answered (plan_at c body r)) < bad_setting
+  at_low body (Err n) = omega arith
+  at_low body (Ok (a, e)) = fit_low (between body a e) (admission_of c.flags (between body a e) true)
 
-  body-low : (body : List ℕ) (i : ℕ) (r : Checked) → put_number (answered (plan_body c body i r)) < bad_setting
-  body-low body i (checked.Refused why) = omega (arith, (wire_range why.why).1)
-  body-low body i checked.Fine = at_low body (message_at (mode_of c.flags) body i)
+  body-low : (body : List ℕ) (i : ℕ) (r : Result (Unit {0}) Refusal) → put_number (answered (plan_body c body i r)) < bad_setting
+  body-low body i (Err why) = omega (arith, (wire_range why.why).1)
+  body-low body i (Ok tt) = at_low body (message_at (mode_of c.flags) body i)
 
 module _ (c : MessageCache) (st : List ℕ) (y : Typed c) where
-  by-put : (l : Lent) (p : Plan) → put_number (answered p) < bad_setting → lent_of c st ≡ l
+  by-put : (l : Result (Unit {0}) Fault) (p : Plan) → put_number (answered p) < bad_setting → lent_of c st ≡ l
       → Exactly c st (put_number (answered (plan_lent l p)))
-  by-put lent.Fine p z e = fine-says c st y (put_number (answered p)) e z
-  by-put lent.BadStore p z e = store-says c st y e
-  by-put lent.Malformed p z e = malformed-says c st y e
+  by-put (Ok tt) p z e = fine-says c st y (put_number (answered p)) e z
+  by-put (Err why) p z e = fault-says c st y why e
 
   plan_exactly : (ed : Edition) (body : List ℕ) (i : ℕ) → Exactly c st (put_number (answered (planned c st ed body i)))
   unfolding planned
@@ -199,22 +208,18 @@ module _ (c : MessageCache) (st : List ℕ) (y : Typed c) where
   put-lent-exactly ed body i r left p = rw p.answer (plan_exactly ed body i)
 
   -- ---- 29: the state is well formed and the topic has more than 1,024 bytes; its length stands beside it
-  by_topic_lem : (topic : List ℕ) (l : Lent) → lent_of c st ≡ l
+  by_topic_lem : (topic : List ℕ) (l : Result (Unit {0}) Fault) → lent_of c st ≡ l
       → (gossip_number (gossip_on l (by_topic topic)) ≡ topic-too_long)
       ↔ (WellFormed c st × (1024 < length topic))
-  by_topic_lem topic lent.Fine e =
+  by_topic_lem topic (Ok tt) e =
       either (nat_lt 1024 (length topic))
       (λ t. (λ n. (fine-well_formed c st y e, ltb-true 1024 (length topic) t), λ w. simp t))
       (λ t. (
         λ n. absurd (let z = simp t at n in omega arith),
         λ w. absurd (let z = ltb-false 1024 (length topic) t in omega (arith, w.1)),
       ))
-  by_topic_lem topic lent.BadStore e = (
-    λ n. absurd (omega arith),
-    λ w. clash (let z = sym e ∙ well_formed-fine c st w.0 in cc),
-  )
-  by_topic_lem topic lent.Malformed e = (
-    λ n. absurd (omega arith),
+  by_topic_lem topic (Err why) e = (
+    λ n. absurd (no_topic why n),
     λ w. clash (let z = sym e ∙ well_formed-fine c st w.0 in cc),
   )
 
@@ -227,14 +232,13 @@ module _ (c : MessageCache) (st : List ℕ) (y : Typed c) where
       → (gossip_number r.answer ≡ topic-too_long) ↔ (WellFormed c st × (1024 < length topic))
   topic-too_long-exactly topic windows r s = rw s.answer (topic-exactly topic)
 
-by_length : (topic : List ℕ) (l : Lent)
+by_length : (topic : List ℕ) (l : Result (Unit {0}) Fault)
     → gossip_number (gossip_on l (by_topic topic)) ≡ topic-too_long
     → gossip_told (gossip_on l (by_topic topic))
     ≡ told topic-too_long (length topic ∷ [])
-by_length topic lent.Fine n =
+by_length topic (Ok tt) n =
     either (nat_lt 1024 (length topic)) (λ t. simp t) (λ t. absurd (let z = simp t at n in omega arith))
-by_length topic lent.BadStore n = absurd (omega arith)
-by_length topic lent.Malformed n = absurd (omega arith)
+by_length topic (Err why) n = absurd (no_topic why n)
 
 answer-length : (c : MessageCache) (st topic : List ℕ) → gossip_number (gossip_answer c st topic) ≡ topic-too_long
     → gossip_told (gossip_answer c st topic) ≡ told topic-too_long (length topic ∷ [])

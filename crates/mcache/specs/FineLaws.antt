@@ -1,5 +1,5 @@
 -- Every state that the calls reach is well formed.
-use Rattle.std.specs.Prelude.{◌≡◌, ℕ, zero, suc, ◌+◌, ◌-◌, ◌*◌, ◌%◌, ◌^◌, ◌<◌, ◌≤◌, Bool, true, false, ◌&&◌, ltb, List, [], ◌∷◌, ◌++◌, length, drop, ◌==◌, nat_le, nat_lt, slice_index, slice_set, refl}
+use Rattle.std.specs.Prelude.{Result, Ok, Err, ◌≡◌, ℕ, zero, suc, ◌+◌, ◌-◌, ◌*◌, ◌%◌, ◌^◌, ◌<◌, ◌≤◌, Bool, true, false, ltb, List, [], ◌∷◌, ◌++◌, length, drop, ◌==◌, nat_le, nat_lt, slice_index, slice_set, refl}
 use Rattle.std.proofs.Common.{◌∙◌, arith, length-append, length-set, get_or-set_same, get_or-set_other}
 use Rattle.std.proofs.lemmas.List.{length-map, length-replicate}
 use Rattle.std.proofs.lemmas.List.Edits.{sets}
@@ -15,24 +15,18 @@ use Rattle.rows.specs.RowsLaws.{place-le, ring_drop}
 use Rattle.rows.specs.Ids.{among, distinct}
 use Rattle.rows.specs.IdsLaws.{distinct-drop, distinct_snoc}
 use Rattle.rows.specs.Store.{id_at, ids_in, in_use, all_up_to}
-use Rattle.protobuf.specs.declared.Checked.{Checked}
-use Rattle.protobuf.specs.declared.Checked.TheVariants as checked
 use Rattle.protobuf.specs.Walk.{between}
 use Rattle.schema.specs.declared.Kind.TheVariants as kind
-use Rattle.schema.specs.declared.Counted.TheVariants as count
 use Rattle.schema.specs.Count.{counted}
-use Rattle.ids.specs.declared.MessageAt.{MessageAt}
-use Rattle.ids.specs.declared.MessageAt.TheVariants as at
 use Rattle.schema.specs.Accept.{accept_of}
 use Rattle.ids.specs.Ids.{message_at, id_bytes}
-use Rattle.admission.specs.declared.Admission.{Admission}
-use Rattle.admission.specs.declared.Admission.TheVariants as admission
 use Rattle.admission.specs.Admission.{admission_of, gives_id}
 use Rattle.admission.specs.AdmissionLaws.{fit-limits, fit-id, gives-own, message-read}
 use Rattle.admission.specs.TopicLaws.{kept-own}
 use Rattle.mcache.specs.declared.MessageCache.{MessageCache}
-use Rattle.mcache.specs.declared.Lent.{Lent}
-use Rattle.mcache.specs.declared.Lent.TheVariants as lent
+use Rattle.protobuf.specs.declared.Refusal.{Refusal}
+use Rattle.admission.specs.declared.Unfit.{Unfit}
+use Rattle.basis.specs.declared.Fault.{Fault}
 use Rattle.mcache.specs.Messages.{Cached, shift}
 use Rattle.mcache.specs.State.{cached_in, falls_from, runs_to, gives_at, all_true, gives_in, legal, fresh, dropped}
 use Rattle.mcache.specs.State.{passed, older, aged, stale, message_size, message_id_size, message_limit, max_history}
@@ -143,12 +137,12 @@ fresh-tests next history max flags st l r =
     }
 
 pub start-at-fine : (next history max flags : ℕ) (st : List ℕ) → legal history max flags ≡ true
-    → length st ≡ max * message_size → lent_of (fresh_at next history max flags) st ≡ lent.Fine
+    → length st ≡ max * message_size → lent_of (fresh_at next history max flags) st ≡ Ok tt
 start-at-fine next history max flags st l r =
     tests-fine (fresh_at next history max flags) st (fresh-tests next history max flags st l r)
 
 pub start_fine : (history max flags : ℕ) (st : List ℕ) → legal history max flags ≡ true → length st ≡ max * message_size
-    → lent_of (fresh history max flags) st ≡ lent.Fine
+    → lent_of (fresh history max flags) st ≡ Ok tt
 start_fine history max flags st l r = rw (fresh-first history max flags) (start-at-fine 0 history max flags st l r)
 
 -- ---- shift
@@ -218,12 +212,12 @@ shifted-tests c st t z =
           (distinct-drop k (ids_in message_id_size (ring_of c) c.id_len c.ids) t.once);
     }
 
-pub shifted-fine : (c : MessageCache) (st : List ℕ) → lent_of c st ≡ lent.Fine → Sized c
-    → lent_of (shifted c) st ≡ lent.Fine
+pub shifted-fine : (c : MessageCache) (st : List ℕ) → lent_of c st ≡ Ok tt → Sized c
+    → lent_of (shifted c) st ≡ Ok tt
 shifted-fine c st f z = tests-fine (shifted c) st (shifted-tests c st (fine-tests c st f) z)
 
-pub shift-fine : (c : MessageCache) (st : List ℕ) → lent_of c st ≡ lent.Fine → Sized c
-    → lent_of (shift_cache c st) st ≡ lent.Fine
+pub shift-fine : (c : MessageCache) (st : List ℕ) → lent_of c st ≡ Ok tt → Sized c
+    → lent_of (shift_cache c st) st ≡ Ok tt
 unfolding shift_cache
 shift-fine c st f z = rw f (tests-fine (shifted c) st (shifted-tests c st (fine-tests c st f) z))
 
@@ -235,11 +229,11 @@ pub record Enters (c : MessageCache) (m id : List ℕ) : Type 0 where
   pub own : gives_id c.flags m id ≡ true
   pub fresh : ltb (index_in c id) c.count ≡ false
 
-of-fit : (c : MessageCache) (p m id : List ℕ) (n : ℕ) (r : Admission)
-    → counted (mode_of c.flags) kind.RawMessage p ≡ count.Records n
+of-fit : (c : MessageCache) (p m id : List ℕ) (n : ℕ) (r : Result ((ℕ × ℕ) × (ℕ × ℕ)) Unfit)
+    → counted (mode_of c.flags) kind.RawMessage p ≡ Ok n
     → admission_of c.flags p true ≡ r → plan_fit c p r ≡ keep m id → Enters c m id
-of-fit c p m id n (admission.Unfit why) k e h = clash (cc)
-of-fit c p m id n (admission.Fit x y z w) k e h =
+of-fit c p m id n (Err why) k e h = clash (cc)
+of-fit c p m id n (Ok ((x, y), (z, w))) k e h =
     either (nat_lt (index_in c (id_bytes p x y z w)) c.count)
     (λ t. clash (let q = rw t at h in cc))
     (λ t.
@@ -253,22 +247,22 @@ of-fit c p m id n (admission.Fit x y z w) k e h =
       fresh = rw (← b) t;
     })
 
-of_at : (c : MessageCache) (ed : Edition) (body m id : List ℕ) (i : ℕ) (r : MessageAt)
-    → accept_of (spoken (mode_of c.flags) ed) body ≡ checked.Fine
+of_at : (c : MessageCache) (ed : Edition) (body m id : List ℕ) (i : ℕ) (r : Result (ℕ × ℕ) ℕ)
+    → accept_of (spoken (mode_of c.flags) ed) body ≡ Ok tt
     → message_at (mode_of c.flags) body i ≡ r → plan_at c body r ≡ keep m id → Enters c m id
-of_at c ed body m id i (at.Count n) a e h = clash (cc)
-of_at c ed body m id i (at.At x y) a e h =
+of_at c ed body m id i (Err n) a e h = clash (cc)
+of_at c ed body m id i (Ok (x, y)) a e h =
     let q = message-read (spoken (mode_of c.flags) ed) body i x y a e in
     of-fit c (between body x y) m id q.0 (admission_of c.flags (between body x y) true) q.1 refl h
 
-of-body : (c : MessageCache) (ed : Edition) (body m id : List ℕ) (i : ℕ) (r : Checked)
+of-body : (c : MessageCache) (ed : Edition) (body m id : List ℕ) (i : ℕ) (r : Result (Unit {0}) Refusal)
     → accept_of (spoken (mode_of c.flags) ed) body ≡ r
     → plan_body c body i r ≡ keep m id → Enters c m id
-of-body c ed body m id i (checked.Refused why) a h = clash (cc)
-of-body c ed body m id i checked.Fine a h = of_at c ed body m id i (message_at (mode_of c.flags) body i) a refl h
+of-body c ed body m id i (Err why) a h = clash (cc)
+of-body c ed body m id i (Ok tt) a h = of_at c ed body m id i (message_at (mode_of c.flags) body i) a refl h
 
 pub planned-keeps : (c : MessageCache) (st : List ℕ) (ed : Edition) (body m id : List ℕ) (i : ℕ)
-    → lent_of c st ≡ lent.Fine → planned c st ed body i ≡ keep m id → Enters c m id
+    → lent_of c st ≡ Ok tt → planned c st ed body i ≡ keep m id → Enters c m id
 unfolding planned
 planned-keeps c st ed body m id i f h = of-body c ed body m id i (accept_of (spoken (mode_of c.flags) ed) body) refl
     (rw f at h)
@@ -375,7 +369,7 @@ passed-tests c st t e =
     }
 
 entered-fine : (c : MessageCache) (st m id : List ℕ) → Tests c st → Sized c → Enters c m id
-    → lent_of (entered m id c) (entered_store c st m) ≡ lent.Fine
+    → lent_of (entered m id c) (entered_store c st m) ≡ Ok tt
 entered-fine c st m id t z k =
     either (c.max_messages == 0)
     (λ u.
@@ -386,21 +380,21 @@ entered-fine c st m id t z k =
     rw (entered-some m id c some, stored_some c st m some)
     (tests-fine (grown m id c) (sets st (spot c * message_size) m) (grown-tests c st m id t z k some)))
 
-put-by : (c : MessageCache) (st : List ℕ) (ed : Edition) (body : List ℕ) (i : ℕ) → lent_of c st ≡ lent.Fine
-    → Sized c → (r : Plan) → planned c st ed body i ≡ r → lent_of (kept_in c r) (stored_in c st r) ≡ lent.Fine
+put-by : (c : MessageCache) (st : List ℕ) (ed : Edition) (body : List ℕ) (i : ℕ) → lent_of c st ≡ Ok tt
+    → Sized c → (r : Plan) → planned c st ed body i ≡ r → lent_of (kept_in c r) (stored_in c st r) ≡ Ok tt
 put-by c st ed body i f z (no r) e = f
 put-by c st ed body i f z (keep m id) e =
     entered-fine c st m id (fine-tests c st f) z (planned-keeps c st ed body m id i f e)
 
 -- whatever is asked, refused puts too
-pub put-fine : (c : MessageCache) (st : List ℕ) (ed : Edition) (body : List ℕ) (i : ℕ) → lent_of c st ≡ lent.Fine
-    → Sized c → lent_of (kept_in c (planned c st ed body i)) (stored_in c st (planned c st ed body i)) ≡ lent.Fine
+pub put-fine : (c : MessageCache) (st : List ℕ) (ed : Edition) (body : List ℕ) (i : ℕ) → lent_of c st ≡ Ok tt
+    → Sized c → lent_of (kept_in c (planned c st ed body i)) (stored_in c st (planned c st ed body i)) ≡ Ok tt
 put-fine c st ed body i f z = put-by c st ed body i f z (planned c st ed body i) refl
 
 -- a message that may be taken, put under its id, whatever it came from
-pub under-fine : (c : MessageCache) (st m id : List ℕ) → lent_of c st ≡ lent.Fine → Sized c → length m ≤ message_size
+pub under-fine : (c : MessageCache) (st m id : List ℕ) → lent_of c st ≡ Ok tt → Sized c → length m ≤ message_size
     → length id ≤ message_id_size → gives_id c.flags m id ≡ true
-    → lent_of (kept_under m id c) (stored_under c st m id) ≡ lent.Fine
+    → lent_of (kept_under m id c) (stored_under c st m id) ≡ Ok tt
 unfolding kept_under stored_under
 under-fine c st m id f z n k g =
     either (nat_lt (index_in c id) c.count)
@@ -516,17 +510,16 @@ pub under-typed : (m id : List ℕ) (c : MessageCache) → Typed c → Typed (ke
 unfolding kept_under
 under-typed m id c y = typed-by c y (plan_under c m id)
 
-typed-shift : (c : MessageCache) → Typed c → (l : Lent) → Typed (when_fine l (shifted c) c)
-typed-shift c y lent.Fine = shifted-typed c y
-typed-shift c y lent.BadStore = y
-typed-shift c y lent.Malformed = y
+typed-shift : (c : MessageCache) → Typed c → (l : Result (Unit {0}) Fault) → Typed (when_fine l (shifted c) c)
+typed-shift c y (Ok tt) = shifted-typed c y
+typed-shift c y (Err why) = y
 
 pub shift-typed : (c : MessageCache) (st : List ℕ) → Typed c → Typed (shift_cache c st)
 unfolding shift_cache
 shift-typed c st y = typed-shift c y (lent_of c st)
 
 -- ---- every state that the calls reach
-reached_both : {c : MessageCache} {st : List ℕ} → Reached c st → (lent_of c st ≡ lent.Fine) × Typed c
+reached_both : {c : MessageCache} {st : List ℕ} → Reached c st → (lent_of c st ≡ Ok tt) × Typed c
 reached_both (begun next history max flags st n l r) =
     (start-at-fine next history max flags st l r, fresh-typed next history max flags n)
 reached_both (given {c} {st} r ed body i) = let b = reached_both r in
@@ -534,7 +527,7 @@ reached_both (given {c} {st} r ed body i) = let b = reached_both r in
 reached_both (opened {c} {st} r) = let b = reached_both r in
     (shift-fine c st b.0 b.1.sized, shift-typed c st b.1)
 
-pub reached_fine : {c : MessageCache} {st : List ℕ} → Reached c st → lent_of c st ≡ lent.Fine
+pub reached_fine : {c : MessageCache} {st : List ℕ} → Reached c st → lent_of c st ≡ Ok tt
 reached_fine r = (reached_both r).0
 
 pub reached_typed : {c : MessageCache} {st : List ℕ} → Reached c st → Typed c

@@ -1,6 +1,6 @@
 -- What `gossip_ids` tells of: exactly the ids of the messages that carry the topic in the windows asked for, in byte
 -- order, each once.
-use Rattle.std.specs.Prelude.{◌≡◌, ℕ, zero, suc, ◌<◌, ◌≤◌, Bool, true, false, cond, ◌&&◌, ◌||◌, ◌↔◌, List, [], ◌∷◌, map, length, get_or, take, drop, replicate, nat_lt, slice_index, slice_index_or, refl}
+use Rattle.std.specs.Prelude.{Ok, Err, Result, ◌≡◌, ℕ, zero, suc, ◌<◌, ◌≤◌, Bool, true, false, cond, ◌&&◌, ◌||◌, ◌↔◌, List, [], ◌∷◌, map, length, get_or, take, drop, replicate, nat_lt, slice_index, slice_index_or, refl}
 use Rattle.std.proofs.Common.{sym, ap, subst, ◌∙◌, arith}
 use mathlib.Core.List.Memᴰ
 use mathlib.Core.List.{Memᴰ}
@@ -12,7 +12,6 @@ use Rattle.std.proofs.Math.Seq.{take-append_seam}
 use borrow.Author.Tests.{ltb-true, ltb-false, lt-ltb, le-ltb}
 use Rattle.basis.specs.declared.Mode.{Mode}
 use Rattle.basis.specs.Dialect.{mode_of}
-use Rattle.basis.specs.declared.Written.{Written}
 use Rattle.basis.specs.Cases.{either, clash, both}
 use Rattle.basis.specs.Writing.{answer, written}
 use Rattle.rows.specs.Rows.{tab, place_of, rows_in}
@@ -23,9 +22,9 @@ use Rattle.rows.specs.Store.{id_at, ids_in}
 use Rattle.admission.specs.Admission.{topics_of}
 use Rattle.admission.specs.TopicLaws.{cut-topics}
 use Rattle.mcache.specs.declared.MessageCache.{MessageCache}
-use Rattle.mcache.specs.declared.Lent.TheVariants as lent
-use Rattle.mcache.specs.declared.Gossip.TheVariants as gossip
 use Rattle.mcache.specs.declared.GossipIds.{GossipIds}
+use Rattle.basis.specs.declared.ShortRoom.{ShortRoom}
+use Rattle.mcache.specs.declared.GossipError.TheVariants as gossip
 use Rattle.mcache.specs.Messages.{Cached, topics, ids_of, held, carrying, enter_id, in_order, gossip_ids}
 use Rattle.mcache.specs.State.{message_in, cached_at, cached_in, has_topic, told, insert_row, gather_into, message_id_size}
 use Rattle.mcache.specs.State.{message_limit, ring_of, table_of}
@@ -235,7 +234,7 @@ told-rows c st topic windows t =
     (λ i k. let l : i < c.count = rw (length-tab g c.count) at k in
     rw (get_d_tab g c.count i 0 l) (told-kept c st topic windows i t l))
 
-pub gossip_ids_lem : (c : MessageCache) (st topic : List ℕ) (windows : ℕ) → lent_of c st ≡ lent.Fine
+pub gossip_ids_lem : (c : MessageCache) (st topic : List ℕ) (windows : ℕ) → lent_of c st ≡ Ok tt
     → map (id_at message_id_size c.id_len c.ids) (gossip_list c st topic windows)
     ≡ gossip_ids (mode_of c.flags) topic windows
     (cached_in c st)
@@ -259,8 +258,8 @@ map_at f [] i h = absurd (omega arith)
 map_at f (x ∷ l) zero h = refl
 map_at f (x ∷ l) (suc i) h = map_at f l i (omega arith)
 
-module _ (c : MessageCache) (st topic : List ℕ) (fine : lent_of c st ≡ lent.Fine) where
-  answer-says : gossip_answer c st topic ≡ cond (nat_lt 1024 (length topic)) (gossip.TopicTooLong (length topic)) gossip.Ids
+module _ (c : MessageCache) (st topic : List ℕ) (fine : lent_of c st ≡ Ok tt) where
+  answer-says : gossip_answer c st topic ≡ cond (nat_lt 1024 (length topic)) (Err (gossip.TopicTooLong (length topic))) (Ok tt)
   unfolding gossip_answer
   answer-says = rw fine
 
@@ -317,7 +316,7 @@ module _ (c : MessageCache) (st topic : List ℕ) (fine : lent_of c st ≡ lent.
           ∙ ap (λ (m : List (List ℕ)). length m) (gossip_ids_lem c st topic windows fine)
 
       -- `id_at` of the i-th place that `gossip_ids` answers writes the i-th id
-      pub gossip_id_at : (i : ℕ) → i < r.count → (out : List ℕ) (w : Written) (left : List ℕ)
+      pub gossip_id_at : (i : ℕ) → i < r.count → (out : List ℕ) (w : Result ℕ ShortRoom) (left : List ℕ)
           → WritesId c (slice_index r.rows i) out w left
           → (w ≡ answer (slice_index_or (gossip_ids (mode_of c.flags) topic windows (cached_in c st)) i []) out)
           × (left ≡ written (slice_index_or (gossip_ids (mode_of c.flags) topic windows (cached_in c st)) i []) out)

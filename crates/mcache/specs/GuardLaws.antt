@@ -1,6 +1,6 @@
 -- What `keep`, `tell` and `form_id` ask first: a tested state and a message that may be taken meet it, so that callers
 -- which tested are led back to the definitions without it.
-use Rattle.std.specs.Prelude.{◌≡◌, ℕ, ◌+◌, ◌-◌, ◌*◌, ◌≤◌, Bool, true, List, length}
+use Rattle.std.specs.Prelude.{Ok, ◌≡◌, ℕ, ◌+◌, ◌-◌, ◌*◌, ◌≤◌, Bool, true, List, length}
 use Rattle.std.proofs.Common.{arith, length-append, leb-true, le-leb, eqb-true, eq-eqb}
 use Rattle.std.proofs.lemmas.List.Edits.{sets}
 use Rattle.basis.specs.Dialect.{mode_of}
@@ -10,13 +10,10 @@ use Rattle.protobuf.specs.Walk.{between}
 use Rattle.protobuf.specs.WalkLaws.{between-length}
 use Rattle.ids.specs.Ids.{id_bytes}
 use Rattle.ids.specs.IdLaws.{id-fits}
-use Rattle.admission.specs.declared.Admission.TheVariants as admission
 use Rattle.admission.specs.Admission.{admission_of}
 use Rattle.admission.specs.AdmissionLaws.{fit_parts}
 use Rattle.mcache.specs.declared.MessageCache.{MessageCache}
-use Rattle.mcache.specs.declared.Lent.TheVariants as lent
 use Rattle.mcache.specs.declared.PutDone.{PutDone}
-use Rattle.mcache.specs.declared.Gossip.TheVariants as gossip
 use Rattle.mcache.specs.declared.GossipIds.{GossipIds}
 use Rattle.mcache.specs.State.{Usable, message_size, message_id_size, message_limit, ring_of}
 use Rattle.mcache.specs.Calls.{lent_of, gossip_list, gossip_array, answered, plan_under, kept_under}
@@ -46,7 +43,7 @@ lie_rows ring h =
 pub usable_lies : (c : MessageCache) (st : List ℕ) → Usable c st → rows_lie (ring_of c) ≡ true
 usable_lies c st u = rows_lie_lem (ring_of c) u.rows.few u.rows.starts u.rows.within
 
-pub fine_lies : (c : MessageCache) (st : List ℕ) → lent_of c st ≡ lent.Fine → rows_lie (ring_of c) ≡ true
+pub fine_lies : (c : MessageCache) (st : List ℕ) → lent_of c st ≡ Ok tt → rows_lie (ring_of c) ≡ true
 fine_lies c st f = let t = fine-tests c st f in rows_lie_lem (ring_of c) t.few t.starts t.within
 
 -- ---- keep
@@ -87,17 +84,17 @@ module _ (c : MessageCache) (st m id : List ℕ) (small : length m ≤ message_s
 
 -- ---- tell
 module _ (c : MessageCache) (st topic : List ℕ) (windows : ℕ) where
-  as_told : rows_lie (ring_of c) ≡ true → (r : GossipIds) → TellsRows c st topic windows r → (r.answer ≡ gossip.Ids)
+  as_told : rows_lie (ring_of c) ≡ true → (r : GossipIds) → TellsRows c st topic windows r → (r.answer ≡ Ok tt)
       × ((r.count ≡ length (gossip_list c st topic windows)) × (r.rows ≡ gossip_array c st topic windows))
   unfolding tell_answer tell_count tell_rows
   as_told h r t = (rw h at t.answer, (rw h at t.count, rw h at t.rows))
 
   -- `tell` on a tested state
-  pub tell_usable : Usable c st → (r : GossipIds) → TellsRows c st topic windows r → (r.answer ≡ gossip.Ids)
+  pub tell_usable : Usable c st → (r : GossipIds) → TellsRows c st topic windows r → (r.answer ≡ Ok tt)
       × ((r.count ≡ length (gossip_list c st topic windows)) × (r.rows ≡ gossip_array c st topic windows))
   tell_usable u = as_told (usable_lies c st u)
 
-  pub tell_fine : lent_of c st ≡ lent.Fine → (r : GossipIds) → TellsRows c st topic windows r → (r.answer ≡ gossip.Ids)
+  pub tell_fine : lent_of c st ≡ Ok tt → (r : GossipIds) → TellsRows c st topic windows r → (r.answer ≡ Ok tt)
       × ((r.count ≡ length (gossip_list c st topic windows)) × (r.rows ≡ gossip_array c st topic windows))
   tell_fine f = as_told (fine_lies c st f)
 
@@ -133,7 +130,7 @@ id-length p a e b f h k =
 
 -- of a message that may be taken, where there is room
 pub form-fit : (flags : ℕ) (p : List ℕ) (word : Bool) (a e b f : ℕ) (out : List ℕ) (n : ℕ) (left : List ℕ)
-    → admission_of flags p word ≡ admission.Fit a e b f → length (id_bytes p a e b f) ≤ length out
+    → admission_of flags p word ≡ Ok ((a, e), (b, f)) → length (id_bytes p a e b f) ≤ length out
     → Forms p a e b f out n left → (n ≡ length (id_bytes p a e b f)) × (left ≡ sets out 0 (id_bytes p a e b f))
 unfolding form_count form_left
 form-fit flags p word a e b f out n left h room k =

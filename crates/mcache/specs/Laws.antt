@@ -1,6 +1,7 @@
 -- What the calls on a message cache mean: they do to the messages what the scope says, and a refused call changes
 -- nothing.
-use Rattle.std.specs.Prelude.{◌≡◌, ℕ, suc, ◌<◌, ◌≤◌, true, cond, ltb, List, [], ◌∷◌, length, get_or, replicate, ◌==◌, ◌≢◌, nat_lt, slice_index_or, refl}
+use Rattle.std.specs.Prelude.{Result, Err, Bool, Ok, ◌≡◌, ℕ, suc, ◌<◌, ◌≤◌, true, cond, ltb, List, [], ◌∷◌, length, get_or, replicate, ◌==◌, ◌≢◌, nat_lt, slice_index_or, refl}
+use Rattle.std.specs.Result.{result_and}
 use Rattle.std.proofs.Common.{sym, ap, ◌∙◌, arith, ltb-true, ltb-false}
 use Rattle.basis.specs.declared.Edition.{Edition}
 use Rattle.basis.specs.Dialect.{mode_of, spoken}
@@ -11,31 +12,24 @@ use Rattle.rows.specs.RowsLaws.{get_d_tab, length_ring}
 use Rattle.rows.specs.Ids.{same_bytes, among, index_of}
 use Rattle.rows.specs.Store.{id_at, ids_in}
 use Rattle.rows.specs.StoreLaws.{index-among}
-use Rattle.protobuf.specs.declared.Checked.TheVariants as checked
 use Rattle.protobuf.specs.Walk.{between}
-use Rattle.ids.specs.declared.MessageAt.TheVariants as at
 use Rattle.schema.specs.Accept.{accept_of}
 use Rattle.ids.specs.Ids.{message_at, id_bytes}
-use Rattle.admission.specs.declared.Admission.TheVariants as admission
 use Rattle.admission.specs.Admission.{admission_of}
 use Rattle.admission.specs.AdmissionLaws.{fit-limits, fit-id}
 use Rattle.mcache.specs.declared.MessageCache.{MessageCache}
-use Rattle.mcache.specs.declared.Lent.{Lent}
-use Rattle.mcache.specs.declared.Lent.TheVariants as lent
-use Rattle.mcache.specs.declared.Put.TheVariants as put
-use Rattle.mcache.specs.declared.Lookup.{Lookup}
-use Rattle.mcache.specs.declared.Lookup.TheVariants as lookup
 use Rattle.mcache.specs.declared.Started.{Started}
-use Rattle.mcache.specs.declared.Gossip.{Gossip}
-use Rattle.mcache.specs.declared.Gossip.TheVariants as gossip
 use Rattle.mcache.specs.declared.GossipIds.{GossipIds}
+use Rattle.basis.specs.declared.Fault.{Fault}
+use Rattle.mcache.specs.declared.GossipError.{GossipError}
+use Rattle.mcache.specs.declared.Kept.TheVariants as kept
 use Rattle.mcache.specs.Told.{put_told, lookup_told}
 use Rattle.mcache.specs.Messages.{Cached, ids_of, held, put as put_in, get, shift}
 use Rattle.mcache.specs.State.{message_in, cached_at, cached_in, dropped, appended, passed, aged, message_size}
 use Rattle.mcache.specs.State.{message_id_size, message_limit, ring_of, legal, fresh}
 use Rattle.mcache.specs.Calls.{lent_number, lent_of, when_fine, shifted, put_number, index_in, entered, plan_under}
 use Rattle.mcache.specs.Calls.{kept_under, stored_under, found, Plan, no, keep, answered, kept_in, stored_in, planned}
-use Rattle.mcache.specs.Calls.{shift_cache, get_part, lookup_answer, lookup_on, lookup_number, start_number}
+use Rattle.mcache.specs.Calls.{shift_cache, get_part, lookup_answer, lookup_number, start_number}
 use Rattle.mcache.specs.Calls.{start_answer, start_cache, gossip_number, gossip_answer, when_told}
 use Rattle.mcache.specs.Calls.{gossip_list, gossip_array, gossip_count, gossip_rows}
 use Rattle.mcache.specs.Unique.{Starts, Gossips}
@@ -44,15 +38,14 @@ use Rattle.mcache.specs.StateLaws.{fine-tests}
 use Rattle.mcache.specs.CachedLaws.{length-cached, ids-cached, cached-shifted, cached-entered, new}
 
 -- ---- shift
-pub shift-cached : (c : MessageCache) (st : List ℕ) → lent_of c st ≡ lent.Fine → Sized c
+pub shift-cached : (c : MessageCache) (st : List ℕ) → lent_of c st ≡ Ok tt → Sized c
     → cached_in (shift_cache c st) st ≡ shift c.history_len (cached_in c st)
 unfolding shift_cache
 shift-cached c st f z = rw f (cached-shifted c st (fine-tests c st f) z)
 
-shift_by : (c : MessageCache) (d : MessageCache) (l : Lent) → (lent_number l ≢ 0) → when_fine l d c ≡ c
-shift_by c d lent.Fine n = absurd (n refl)
-shift_by c d lent.BadStore n = refl
-shift_by c d lent.Malformed n = refl
+shift_by : (c : MessageCache) (d : MessageCache) (l : Result (Unit {0}) Fault) → (lent_number l ≢ 0) → when_fine l d c ≡ c
+shift_by c d (Ok tt) n = absurd (n refl)
+shift_by c d (Err why) n = refl
 
 -- where it is refused, nothing changes
 pub shift-refused : (c : MessageCache) (st : List ℕ) → (lent_number (lent_of c st) ≢ 0) → shift_cache c st ≡ c
@@ -86,7 +79,7 @@ under-settings m id c =
     (λ t. rw t (refl, refl, refl))
     (λ t. either (c.max_messages == 0) (λ u. rw (t, u) (refl, refl, refl)) (λ u. rw (t, u) (refl, refl, refl)))
 
-pub under-cached : (c : MessageCache) (st m id : List ℕ) → lent_of c st ≡ lent.Fine → Sized c → length id ≤ message_id_size
+pub under-cached : (c : MessageCache) (st m id : List ℕ) → lent_of c st ≡ Ok tt → Sized c → length id ≤ message_id_size
     → length m ≤ message_size
     → cached_in (kept_under m id c) (stored_under c st m id) ≡ put_in c.max_messages id m (cached_in c st)
 unfolding kept_under stored_under put_in
@@ -99,10 +92,10 @@ under-cached c st m id f z k n =
 -- of a message that may be taken
 module _
     (c : MessageCache) (st : List ℕ) (ed : Edition) (body : List ℕ) (i a e x y z w : ℕ)
-    (fine : lent_of c st ≡ lent.Fine)
-    (ok : accept_of (spoken (mode_of c.flags) ed) body ≡ checked.Fine)
-    (there : message_at (mode_of c.flags) body i ≡ at.At a e)
-    (fit : admission_of c.flags (between body a e) true ≡ admission.Fit x y z w)
+    (fine : lent_of c st ≡ Ok tt)
+    (ok : accept_of (spoken (mode_of c.flags) ed) body ≡ Ok tt)
+    (there : message_at (mode_of c.flags) body i ≡ Ok (a, e))
+    (fit : admission_of c.flags (between body a e) true ≡ Ok ((x, y), (z, w)))
   where
     abbrev p : List ℕ
     p = between body a e
@@ -114,7 +107,7 @@ module _
     unfolding planned
     plan_under_lem = rw (fine, ok, there, fit)
 
-    pub put_plan : planned c st ed body i ≡ cond (held id (cached_in c st)) (no put.Held) (keep p id)
+    pub put_plan : planned c st ed body i ≡ cond (held id (cached_in c st)) (no (Ok kept.Held)) (keep p id)
     put_plan = rw (plan_under_lem, held-index c st id)
 
     pub put-says : put_told (answered (planned c st ed body i)) ≡ cond (held id (cached_in c st)) (done (0 ∷ []))
@@ -129,7 +122,7 @@ module _
         (fit-limits c.flags p true x y z w fit).small)
 
 -- all else changes nothing
-not-stored : (c : MessageCache) (st : List ℕ) (r : Plan) → (answered r ≢ put.Stored) → (kept_in c r ≡ c)
+not-stored : (c : MessageCache) (st : List ℕ) (r : Plan) → (answered r ≢ (Ok kept.Stored)) → (kept_in c r ≡ c)
     × (stored_in c st r ≡ st)
 not-stored c st (no r) n = (refl, refl)
 not-stored c st (keep m _) n = absurd (n refl)
@@ -182,7 +175,7 @@ found-cached c st id =
     ∙ message_at_lem c st (place_of (ring_of c) (index_in c id)))))
     (λ t. let h = ltb-false (index_in c id) c.count t in rw t (sym (get_none id (cached_in c st) (omega arith))))
 
-module _ (c : MessageCache) (st id : List ℕ) (fine : lent_of c st ≡ lent.Fine) where
+module _ (c : MessageCache) (st id : List ℕ) (fine : lent_of c st ≡ Ok tt) where
   pub get-cached : get_part c st id ≡ get id (cached_in c st)
   unfolding get_part
   get-cached = rw fine (found-cached c st id)
@@ -204,25 +197,22 @@ pub start-refused : (history max flags : ℕ) (r : Started) → Starts history m
     → (start_number r.answer ≢ 0) → r.cache ≡ fresh 1 0 0
 start-refused history max flags r s n = s.cache ∙ start-by history max flags (λ z. n (ap start_number s.answer ∙ z))
 
-get_by : (m : List ℕ) (r : Lookup) (l : Lent) → lookup_number r ≡ 0 → (lookup_number (lookup_on l r) ≢ 0)
-    → when_fine l m [] ≡ []
-get_by m r lent.Fine z n = absurd (n z)
-get_by m r lent.BadStore z n = refl
-get_by m r lent.Malformed z n = refl
+get_by : (m : List ℕ) (r : Result Bool Fault) (l : Result (Unit {0}) Fault) → lookup_number r ≡ 0
+    → (lookup_number (result_and l r) ≢ 0) → when_fine l m [] ≡ []
+get_by m r (Ok tt) z n = absurd (n z)
+get_by m r (Err why) z n = refl
 
 pub get_refused : (c : MessageCache) (st id : List ℕ) → (lookup_number (lookup_answer c st id) ≢ 0)
     → get_part c st id ≡ []
 unfolding lookup_answer get_part
 get_refused c st id n =
-    get_by (found c st id) (cond (nat_lt (index_in c id) c.count) lookup.Found lookup.Missing) (lent_of c st)
+    get_by (found c st id) (Ok (nat_lt (index_in c id) c.count)) (lent_of c st)
     (either (nat_lt (index_in c id) c.count) (λ t. rw t) (λ t. rw t)) n
 
-gossip_by : (n : ℕ) (rows : List ℕ) (r : Gossip) → (gossip_number r ≢ 0) → (when_told r n 0 ≡ 0)
+gossip_by : (n : ℕ) (rows : List ℕ) (r : Result (Unit {0}) GossipError) → (gossip_number r ≢ 0) → (when_told r n 0 ≡ 0)
     × (when_told r rows (replicate message_limit 0) ≡ replicate message_limit 0)
-gossip_by n rows gossip.Ids k = absurd (k refl)
-gossip_by n rows gossip.BadStore k = (refl, refl)
-gossip_by n rows gossip.Malformed k = (refl, refl)
-gossip_by n rows (gossip.TopicTooLong m) k = (refl, refl)
+gossip_by n rows (Ok tt) k = absurd (k refl)
+gossip_by n rows (Err why) k = (refl, refl)
 
 gossip_none : (c : MessageCache) (st topic : List ℕ) (windows : ℕ) → (gossip_number (gossip_answer c st topic) ≢ 0)
     → (gossip_count c st topic windows ≡ 0) × (gossip_rows c st topic windows ≡ replicate message_limit 0)

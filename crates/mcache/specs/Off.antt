@@ -1,7 +1,7 @@
 -- With the flag off that allows unsigned messages a message cache is what it was before there was that flag, in each mode:
 -- each definition that reads it equals the one it was, which stands here. And what becomes of a lent state whose flag is
 -- set from outside.
-use Rattle.std.specs.Prelude.{◌≡◌, ℕ, ◌-◌, ◌<◌, Bool, true, false, ◌&&◌, List, ◌≢◌, nat_le, slice_index, refl}
+use Rattle.std.specs.Prelude.{Result, Ok, Err, ◌≡◌, ℕ, ◌-◌, ◌<◌, Bool, true, false, ◌&&◌, List, ◌≢◌, nat_le, slice_index, refl}
 use Rattle.std.proofs.Math.Path.{ap, ap₂}
 use Rattle.std.proofs.Math.Bool.{and-true}
 use Rattle.basis.specs.declared.Mode.{Mode}
@@ -13,24 +13,19 @@ use Rattle.rows.specs.Rows.{place_of, rows_in}
 use Rattle.rows.specs.RowsLaws.{ring_ext}
 use Rattle.rows.specs.Ids.{distinct}
 use Rattle.rows.specs.Store.{id_at, ids_in, in_use, all_up_to}
-use Rattle.protobuf.specs.declared.Checked.{Checked}
-use Rattle.protobuf.specs.declared.Checked.TheVariants as checked
 use Rattle.protobuf.specs.Walk.{between}
 use Rattle.protobuf.specs.declared.WireError.{WireError}
 use Rattle.schema.specs.declared.Kind.TheVariants as kind
-use Rattle.schema.specs.declared.Counted.TheVariants as count
 use Rattle.schema.specs.Count.{counted}
 use Rattle.schema.specs.Accept.{accept_of}
-use Rattle.ids.specs.declared.MessageAt.{MessageAt}
-use Rattle.ids.specs.declared.MessageAt.TheVariants as at
 use Rattle.ids.specs.Ids.{message_at}
 use Rattle.admission.specs.Flags.{known_flags, allows_unsigned}
 use Rattle.admission.specs.Admission.{Span, is_signed, kept_with}
 use Rattle.admission.specs.AdmissionLaws.{gives-refused, gives-signed}
 use Rattle.admission.specs.FlagLaws.{admission_was, kept_was, admission_off, kept_off, kept_on, kept_mode}
 use Rattle.mcache.specs.declared.MessageCache.{MessageCache}
-use Rattle.mcache.specs.declared.Lent.TheVariants as lent
-use Rattle.mcache.specs.declared.Put.TheVariants as put
+use Rattle.protobuf.specs.declared.Refusal.{Refusal}
+use Rattle.mcache.specs.declared.PutError.TheVariants as put
 use Rattle.mcache.specs.State.{Table, message_in, topics_at, falls_from, runs_to, gives_at, all_true, gives_in, ids_fit}
 use Rattle.mcache.specs.State.{rows_fit, legal, well_formed, ring_of, table_of, message_size, message_id_size, message_limit}
 use Rattle.mcache.specs.State.{max_history}
@@ -62,13 +57,13 @@ well_formed_was mode c st =
     legal_was c.history_len c.max_messages
     && (nat_le c.start c.max_messages && (nat_le c.count c.max_messages && rows_fit_was mode c st))
 
-abbrev pub plan_at_was : Mode → MessageCache → List ℕ → MessageAt → Plan
-plan_at_was mode c body (at.Count n) = no (put.NoMessage n)
-plan_at_was mode c body (at.At a e) = plan_fit c (between body a e) (admission_was mode (between body a e) true)
+abbrev pub plan_at_was : Mode → MessageCache → List ℕ → Result (ℕ × ℕ) ℕ → Plan
+plan_at_was mode c body (Err n) = no (Err (put.NoMessage n))
+plan_at_was mode c body (Ok (a, e)) = plan_fit c (between body a e) (admission_was mode (between body a e) true)
 
-abbrev pub plan_body_was : Mode → MessageCache → List ℕ → ℕ → Checked → Plan
-plan_body_was mode c body i (checked.Refused why) = no (put.Refused why)
-plan_body_was mode c body i checked.Fine = plan_at_was mode c body (message_at mode body i)
+abbrev pub plan_body_was : Mode → MessageCache → List ℕ → ℕ → Result (Unit {0}) Refusal → Plan
+plan_body_was mode c body i (Err why) = no (Err (put.Refused why))
+plan_body_was mode c body i (Ok tt) = plan_at_was mode c body (message_at mode body i)
 
 unfoldable pub planned_was : Mode → MessageCache → List ℕ → Edition → List ℕ → ℕ → Plan
 planned_was mode c st ed body i = plan_lent (lent_of c st) (plan_body_was mode c body i (accept_of (spoken mode ed) body))
@@ -94,14 +89,14 @@ module _ (c : MessageCache) (st : List ℕ) (off : allows_unsigned c.flags ≡ f
   unfolding rows_fit rows_fit_was ids_fit ids_fit_was gives_in
   rows_off = rw gives_was_lem
 
-  at_was : (body : List ℕ) (r : MessageAt) → plan_at c body r ≡ plan_at_was (mode_of c.flags) c body r
-  at_was body (at.Count n) = refl
-  at_was body (at.At a e) =
+  at_was : (body : List ℕ) (r : Result (ℕ × ℕ) ℕ) → plan_at c body r ≡ plan_at_was (mode_of c.flags) c body r
+  at_was body (Err n) = refl
+  at_was body (Ok (a, e)) =
       ap (plan_fit c (between body a e)) (admission_off c.flags (between body a e) true off)
 
-  body_was : (body : List ℕ) (i : ℕ) (r : Checked) → plan_body c body i r ≡ plan_body_was (mode_of c.flags) c body i r
-  body_was body i (checked.Refused why) = refl
-  body_was body i checked.Fine = at_was body (message_at (mode_of c.flags) body i)
+  body_was : (body : List ℕ) (i : ℕ) (r : Result (Unit {0}) Refusal) → plan_body c body i r ≡ plan_body_was (mode_of c.flags) c body i r
+  body_was body i (Err why) = refl
+  body_was body i (Ok tt) = at_was body (message_at (mode_of c.flags) body i)
 
   pub planned_off : (ed : Edition) (body : List ℕ) (i : ℕ)
       → planned c st ed body i ≡ planned_was (mode_of c.flags) c st ed body i
@@ -135,9 +130,9 @@ with_flags flags c =
     }
 
 -- flags under which all that is kept may be kept are not found out
-module _ (c : MessageCache) (st : List ℕ) (flags : ℕ) (known : known_flags flags ≡ true) (fine : lent_of c st ≡ lent.Fine) where
+module _ (c : MessageCache) (st : List ℕ) (flags : ℕ) (known : known_flags flags ≡ true) (fine : lent_of c st ≡ Ok tt) where
   reset : ((p i : List ℕ) (ts : List Span) → kept_with c.flags p i ts ≡ true → kept_with flags p i ts ≡ true)
-      → lent_of (with_flags flags c) st ≡ lent.Fine
+      → lent_of (with_flags flags c) st ≡ Ok tt
   unfolding with_flags gives_in gives_at
   reset kept =
       let t = fine-tests c st fine in
@@ -166,17 +161,17 @@ module _ (c : MessageCache) (st : List ℕ) (flags : ℕ) (known : known_flags f
 
   -- the one that allows unsigned messages, turned on
   pub turned_on : mode_of c.flags ≡ mode_of flags → allows_unsigned c.flags ≡ false
-      → lent_of (with_flags flags c) st ≡ lent.Fine
+      → lent_of (with_flags flags c) st ≡ Ok tt
   turned_on mode off = reset (λ p i ts. kept_on c.flags flags p i ts mode off)
 
   -- the one that skips groups, turned on
   pub groups_on : mode_of c.flags ≡ Plain → mode_of flags ≡ Groups
-      → allows_unsigned flags ≡ allows_unsigned c.flags → lent_of (with_flags flags c) st ≡ lent.Fine
+      → allows_unsigned flags ≡ allows_unsigned c.flags → lent_of (with_flags flags c) st ≡ Ok tt
   groups_on plain groups same = reset (kept_mode c.flags flags plain groups same)
 
 -- turned off with a message cached that has no signature, it is 42
 pub turned_off : (c : MessageCache) (st : List ℕ) (i : ℕ) → allows_unsigned c.flags ≡ false → i < c.count
-    → is_signed (mode_of c.flags) (message_in c.len st (place_of (ring_of c) i)) ≡ false → lent_of c st ≢ lent.Fine
+    → is_signed (mode_of c.flags) (message_in c.len st (place_of (ring_of c) i)) ≡ false → lent_of c st ≢ (Ok tt)
 turned_off c st i off h n f =
     let p = place_of (ring_of c) i in
     let s = gives-signed c.flags (message_in c.len st p) (id_at message_id_size c.id_len c.ids p)
@@ -185,8 +180,8 @@ turned_off c st i off h n f =
 
 -- ---- the mode that is set from outside: a cached message that is not read in it is 42
 pub unread : (c : MessageCache) (st : List ℕ) (i : ℕ) (why : WireError) → i < c.count
-    → counted (mode_of c.flags) kind.RawMessage (message_in c.len st (place_of (ring_of c) i)) ≡ count.Refused why
-    → lent_of c st ≢ lent.Fine
+    → counted (mode_of c.flags) kind.RawMessage (message_in c.len st (place_of (ring_of c) i)) ≡ Err why
+    → lent_of c st ≢ (Ok tt)
 unread c st i why h n f =
     let p = place_of (ring_of c) i in
     let g = row_gives c st (fine-tests c st f) i h in

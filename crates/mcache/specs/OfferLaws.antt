@@ -1,5 +1,5 @@
 -- Why an id is told of or not: each answer exactly.
-use Rattle.std.specs.Prelude.{◌≡◌, ℕ, suc, ◌-◌, ◌<◌, ◌≤◌, Bool, true, false, not, ◌&&◌, ◌⊎◌, ◌↔◌, List, [], ◌∷◌, length, ◌≢◌, nat_le, nat_lt, slice_index_or}
+use Rattle.std.specs.Prelude.{Ok, ◌≡◌, ℕ, suc, ◌-◌, ◌<◌, ◌≤◌, Bool, true, false, not, ◌⊎◌, ◌↔◌, List, [], ◌∷◌, length, ◌≢◌, nat_le, nat_lt, slice_index_or}
 use Rattle.std.proofs.Math.Path.{refl, sym, ap}
 use Rattle.std.proofs.Common.{◌∙◌, arith}
 use mathlib.Core.List.Memᴰ
@@ -13,7 +13,6 @@ use Rattle.rows.specs.Rows.{place_of}
 use Rattle.rows.specs.Ids.{same_bytes, among, distinct, index_of}
 use Rattle.rows.specs.IdsLaws.{same_self, same_equal}
 use Rattle.mcache.specs.declared.MessageCache.{MessageCache}
-use Rattle.mcache.specs.declared.Lent.TheVariants as lent
 use Rattle.mcache.specs.declared.Offer.{Offer}
 use Rattle.mcache.specs.declared.Offer.TheVariants as offer
 use Rattle.mcache.specs.Messages.{Cached, topics, ids_of, held, gossip_ids, offer_for, offer_of}
@@ -198,7 +197,7 @@ module _ (mode : Mode) (id topic : List ℕ) (windows : ℕ) where
       either (same_bytes m.id id) (λ t. let k : suc (length ms) ≤ 0 = rw t at h in absurd (omega arith))
       (λ t. let k : suc (length ms) ≤ suc (index_of id (ids_of ms)) = rw t at h in rw t (offer_none ms (omega arith)))
 
-module _ (id topic : List ℕ) (windows : ℕ) (c : MessageCache) (st : List ℕ) (fine : lent_of c st ≡ lent.Fine) where
+module _ (id topic : List ℕ) (windows : ℕ) (c : MessageCache) (st : List ℕ) (fine : lent_of c st ≡ Ok tt) where
   offer_row : (i : ℕ) → i < c.count
       → offer_at c st topic windows (place_of (ring_of c) i)
       ≡ says_of (mode_of c.flags) id topic windows (cached_at c st (place_of (ring_of c) i))
@@ -240,7 +239,7 @@ falls_mem most m (k ∷ ms) f d =
     ⊎_elim (λ (e : m ≡ k). omega (arith, ap (λ (x : Cached). x.window) e))
     (λ (r : Memᴰ m ms). omega (arith, falls_mem k.window m ms b.1 r)) (Memᴰ.cases_cons d)
 
-pub cached-recent : (c : MessageCache) (st : List ℕ) (m : Cached) → lent_of c st ≡ lent.Fine
+pub cached-recent : (c : MessageCache) (st : List ℕ) (m : Cached) → lent_of c st ≡ Ok tt
     → Memᴰ m (cached_in c st)
     → m.window < c.history_len
 cached-recent c st m fine d =

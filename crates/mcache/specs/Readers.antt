@@ -1,5 +1,5 @@
 -- Short theorems on the message cache, for readers.
-use Rattle.std.specs.Prelude.{◌≡◌, ℕ, suc, ◌+◌, ◌-◌, ◌*◌, ◌<◌, ◌≤◌, true, false, List, [], ◌∷◌, ◌++◌, length, drop, ◌==◌, ◌≢◌, refl}
+use Rattle.std.specs.Prelude.{Result, Err, Ok, ◌≡◌, ℕ, suc, ◌+◌, ◌-◌, ◌*◌, ◌<◌, ◌≤◌, true, false, List, [], ◌∷◌, ◌++◌, length, drop, ◌==◌, ◌≢◌, refl}
 use Rattle.std.proofs.Common.{ap, ◌∙◌, ⊎_elim, arith}
 use Rattle.std.proofs.lemmas.List.Edits.{sets}
 use Rattle.basis.specs.declared.Edition.{Edition}
@@ -9,17 +9,13 @@ use Rattle.basis.specs.Told.{done}
 use Rattle.rows.specs.declared.Ring.{Ring}
 use Rattle.rows.specs.Rows.{place_of, without, one_more}
 use Rattle.rows.specs.RowsLaws.{place_is, place-le, newest-more}
-use Rattle.protobuf.specs.declared.Checked.TheVariants as checked
 use Rattle.protobuf.specs.Walk.{between}
-use Rattle.ids.specs.declared.MessageAt.TheVariants as at
 use Rattle.schema.specs.Accept.{accept_of}
 use Rattle.ids.specs.Ids.{message_at, id_bytes}
-use Rattle.admission.specs.declared.Admission.TheVariants as admission
 use Rattle.admission.specs.Admission.{topic_places, admission_of}
 use Rattle.mcache.specs.declared.MessageCache.{MessageCache}
-use Rattle.mcache.specs.declared.Lent.{Lent}
-use Rattle.mcache.specs.declared.Lent.TheVariants as lent
-use Rattle.mcache.specs.declared.Put.TheVariants as put
+use Rattle.basis.specs.declared.Fault.{Fault}
+use Rattle.mcache.specs.declared.Kept.TheVariants as kept
 use Rattle.mcache.specs.Told.{put_told}
 use Rattle.mcache.specs.Messages.{Cached, held, put as put_in}
 use Rattle.mcache.specs.State.{cached_in, message_size, table_of, topics_at, legal, fresh, dropped, appended}
@@ -56,17 +52,17 @@ oldest_leaves max id m oldest ms h f =
 -- ---- the calls
 module _
     (c : MessageCache) (st : List ℕ) (ed : Edition) (body : List ℕ) (i a e x y z w : ℕ)
-    (fine : lent_of c st ≡ lent.Fine)
-    (ok : accept_of (spoken (mode_of c.flags) ed) body ≡ checked.Fine)
-    (there : message_at (mode_of c.flags) body i ≡ at.At a e)
-    (fit : admission_of c.flags (between body a e) true ≡ admission.Fit x y z w)
+    (fine : lent_of c st ≡ Ok tt)
+    (ok : accept_of (spoken (mode_of c.flags) ed) body ≡ Ok tt)
+    (there : message_at (mode_of c.flags) body i ≡ Ok (a, e))
+    (fit : admission_of c.flags (between body a e) true ≡ Ok ((x, y), (z, w)))
   where
     -- a put of a held id answers so and changes nothing, also where the message is another one with that id
     pub held-not_replaced : held (id_bytes (between body a e) x y z w) (cached_in c st) ≡ true
         → (put_told (answered (planned c st ed body i)) ≡ done (0 ∷ [])) × (kept_in c (planned c st ed body i) ≡ c)
         × (stored_in c st (planned c st ed body i) ≡ st)
     held-not_replaced h =
-        let p : planned c st ed body i ≡ no put.Held =
+        let p : planned c st ed body i ≡ no (Ok kept.Held) =
         rw h at (put_plan c st ed body i a e x y z w fine ok there fit) in
         (ap (λ (r : Plan). put_told (answered r)) p, ap (kept_in c) p, ap (stored_in c st) p)
 
@@ -125,7 +121,7 @@ stays-row : (c : MessageCache) (j : ℕ) → stays c j ≡ place_of (one_more (r
 unfolding stays place_of
 stays-row c j = refl
 
-grown-written : (c : MessageCache) (st m id : List ℕ) → lent_of c st ≡ lent.Fine → Sized c
+grown-written : (c : MessageCache) (st m id : List ℕ) → lent_of c st ≡ Ok tt → Sized c
     → (c.max_messages ≢ 0) → Enters c m id → Written c (grown m id c) st (sets st (spot c * message_size) m) m
 unfolding grown
 grown-written c st m id fine z some k =
@@ -142,7 +138,7 @@ grown-written c st m id fine z some k =
     }
 
 pub freed-place-used : (c : MessageCache) (st : List ℕ) (ed : Edition) (body m id : List ℕ) (i : ℕ)
-    → lent_of c st ≡ lent.Fine → Sized c → (c.max_messages ≢ 0) → planned c st ed body i ≡ keep m id
+    → lent_of c st ≡ Ok tt → Sized c → (c.max_messages ≢ 0) → planned c st ed body i ≡ keep m id
     → Written c (kept_in c (planned c st ed body i)) st (stored_in c st (planned c st ed body i)) m
 freed-place-used c st ed body m id i fine z some e =
     rw (e, entered-some m id c some, stored_some c st m some)
@@ -163,11 +159,10 @@ pub put-flags : (c : MessageCache) (st : List ℕ) (ed : Edition) (body : List �
     → (kept_in c (planned c st ed body i)).flags ≡ c.flags
 put-flags c st ed body i = plan_flags c (planned c st ed body i)
 
-when_flags : (c : MessageCache) (r : Lent) → (when_fine r (shifted c) c).flags ≡ c.flags
+when_flags : (c : MessageCache) (r : Result (Unit {0}) Fault) → (when_fine r (shifted c) c).flags ≡ c.flags
 unfolding shifted aged dropped
-when_flags c lent.Fine = refl
-when_flags c lent.BadStore = refl
-when_flags c lent.Malformed = refl
+when_flags c (Ok tt) = refl
+when_flags c (Err why) = refl
 
 pub shift-flags : (c : MessageCache) (st : List ℕ) → (shift_cache c st).flags ≡ c.flags
 unfolding shift_cache

@@ -1,5 +1,5 @@
 -- Laws of the test for a well formed state: what it asks, part by part, and what that says of each row.
-use Rattle.std.specs.Prelude.{◌≡◌, ℕ, zero, suc, ◌-◌, ◌*◌, ◌<◌, ◌≤◌, Bool, true, List, [], ◌∷◌, length, get_or, drop, ◌==◌, nat_le, slice_index, slice_index_or, refl}
+use Rattle.std.specs.Prelude.{Ok, ◌≡◌, ℕ, zero, suc, ◌-◌, ◌*◌, ◌<◌, ◌≤◌, Bool, true, List, [], ◌∷◌, length, get_or, drop, ◌==◌, nat_le, slice_index, slice_index_or, refl}
 use Rattle.std.proofs.Math.Path.{sym, ap}
 use Rattle.std.proofs.Common.{◌∙◌, le-leb, leb-true, eqb-true, eq-eqb}
 use native.Mathlib.Omega.{arith}
@@ -14,7 +14,6 @@ use Rattle.admission.specs.Flags.{known_flags}
 use Rattle.admission.specs.Admission.{Span, topic_places, gives_id, kept_with}
 use Rattle.admission.specs.TopicLaws.{gives-few, length_spans, kept-only}
 use Rattle.mcache.specs.declared.MessageCache.{MessageCache}
-use Rattle.mcache.specs.declared.Lent.TheVariants as lent
 use Rattle.mcache.specs.State.{message_in, falls_from, runs_to, gives_at, all_true, gives_in, ids_fit, rows_fit, legal}
 use Rattle.mcache.specs.State.{well_formed, Usable, message_size, message_id_size, message_limit, max_history, ring_of}
 use Rattle.mcache.specs.State.{max_topics, table_of, topics_at}
@@ -37,7 +36,7 @@ pub record Tests (c : MessageCache) (st : List ℕ) : Type 0 where
   pub gives : gives_in c.flags (ring_of c) c.len c.id_len c.ids (table_of c) st ≡ true
   pub once : distinct (ids_in message_id_size (ring_of c) c.id_len c.ids) ≡ true
 
-fine-both : (c : MessageCache) (st : List ℕ) → lent_of c st ≡ lent.Fine → (length st ≡ c.max_messages * message_size)
+fine-both : (c : MessageCache) (st : List ℕ) → lent_of c st ≡ Ok tt → (length st ≡ c.max_messages * message_size)
     × (well_formed c st ≡ true)
 unfolding lent_of
 fine-both c st h =
@@ -46,7 +45,7 @@ fine-both c st h =
     (λ u. clash (let z = simp (t, u) at h in cc)))
     (λ t. clash (let z = simp t at h in cc))
 
-pub fine-tests : (c : MessageCache) (st : List ℕ) → lent_of c st ≡ lent.Fine → Tests c st
+pub fine-tests : (c : MessageCache) (st : List ℕ) → lent_of c st ≡ Ok tt → Tests c st
 unfolding well_formed legal rows_fit ids_fit
 fine-tests c st h =
     let f = fine-both c st h in
@@ -76,7 +75,7 @@ fine-tests c st h =
     }
 
 -- and that it is enough
-pub tests-fine : (c : MessageCache) (st : List ℕ) → Tests c st → lent_of c st ≡ lent.Fine
+pub tests-fine : (c : MessageCache) (st : List ℕ) → Tests c st → lent_of c st ≡ Ok tt
 unfolding lent_of well_formed legal rows_fit ids_fit
 tests-fine c st t =
     simp (
@@ -158,7 +157,7 @@ module _ (c : MessageCache) (st : List ℕ) (t : Tests c st) (i : ℕ) (h : i < 
   row-id-short = short_in message_id_size c.id_len (ring_of c) t.id-short i h
 
 -- ---- a state that passes has its rows within the arrays and the store
-pub lent-kept : (c : MessageCache) (st : List ℕ) → lent_of c st ≡ lent.Fine → Sized c → Usable c st
+pub lent-kept : (c : MessageCache) (st : List ℕ) → lent_of c st ≡ Ok tt → Sized c → Usable c st
 lent-kept c st h z =
     let t = fine-tests c st h in
     record {

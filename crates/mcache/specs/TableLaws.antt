@@ -1,6 +1,6 @@
 -- Laws of the kept topics' places: a row that is written is read so again, and the others stay as they were.
-use Rattle.std.specs.Prelude.{◌≡◌, ℕ, ◌+◌, ◌*◌, ◌<◌, ◌≤◌, true, List, length, take, drop, ◌≢◌, nat_lt, slice_index, refl}
-use Rattle.std.proofs.Common.{sym, ap, ◌∙◌, arith, length-take, take_all, get_or-set_same, get_or-set_other, ltb-true, ltb-false}
+use Rattle.std.specs.Prelude.{◌≡◌, ℕ, ◌*◌, ◌<◌, ◌≤◌, true, List, length, take, drop, ◌≢◌, nat_lt, slice_index}
+use Rattle.std.proofs.Common.{ap, ◌∙◌, arith, length-take, take_all, get_or-set_same, get_or-set_other, ltb-true, ltb-false}
 use Rattle.std.proofs.lemmas.List.{length-map}
 use Rattle.std.proofs.Math.ListN.{length-set}
 use Rattle.std.proofs.lemmas.List.Edits.{sets}
@@ -9,7 +9,7 @@ use Rattle.basis.specs.declared.Mode.{Mode}
 use Rattle.basis.specs.Dialect.{mode_of}
 use Rattle.basis.specs.Cases.{either}
 use Rattle.rows.specs.ListLaws.{drop-sets, part-sets}
-use Rattle.admission.specs.Admission.{Span, topic_places, starts_of, sizes_of, spans_in, gives_id}
+use Rattle.admission.specs.Admission.{Span, topic_places, starts_of, sizes_of, gives_id}
 use Rattle.admission.specs.TopicLaws.{gives-few, spans_take, spans_put}
 use Rattle.mcache.specs.State.{Table, topics_at, kept_places, noted, Roomy, message_limit, max_topics}
 

@@ -1,20 +1,20 @@
 -- The contract of each call that answers in parts or leaves something, as a record of what it says of the answer, the
 -- cache that comes back and every lent byte; and that it leaves no choice: two results that meet it are the same.
-use Rattle.std.specs.Prelude.{◌≡◌, ℕ, List}
+use Rattle.std.specs.Prelude.{Result, ◌≡◌, ℕ, List}
 use Rattle.std.proofs.Common.{sym, ap, ap₂, ◌∙◌}
 use Rattle.basis.specs.declared.Edition.{Edition}
-use Rattle.basis.specs.declared.Written.{Written}
 use Rattle.basis.specs.Writing.{answer, written}
 use Rattle.rows.specs.Store.{id_at}
 use Rattle.mcache.specs.declared.MessageCache.{MessageCache}
-use Rattle.mcache.specs.declared.Lent.{Lent}
-use Rattle.mcache.specs.declared.Start.{Start}
 use Rattle.mcache.specs.declared.Started.{Started}
-use Rattle.mcache.specs.declared.Put.{Put}
 use Rattle.mcache.specs.declared.PutDone.{PutDone}
 use Rattle.mcache.specs.declared.Shifted.{Shifted}
-use Rattle.mcache.specs.declared.Gossip.{Gossip}
 use Rattle.mcache.specs.declared.GossipIds.{GossipIds}
+use Rattle.basis.specs.declared.ShortRoom.{ShortRoom}
+use Rattle.basis.specs.declared.Fault.{Fault}
+use Rattle.mcache.specs.declared.GossipError.{GossipError}
+use Rattle.mcache.specs.declared.Kept.{Kept}
+use Rattle.mcache.specs.declared.PutError.{PutError}
 use Rattle.mcache.specs.State.{message_id_size}
 use Rattle.mcache.specs.Calls.{start_answer, start_cache, lent_of, shift_cache, plan_kept, planned, answered, kept_in}
 use Rattle.mcache.specs.Calls.{stored_in, gossip_answer, gossip_count, gossip_rows, tell_answer, tell_count, tell_rows}
@@ -55,23 +55,23 @@ pub record Forms (part : List ℕ) (a e b f : ℕ) (out : List ℕ) (r : ℕ) (l
   pub buffer : left ≡ form_left part a e b f out
 
 -- the id in a place, for every state and place
-pub record WritesId (c : MessageCache) (row : ℕ) (out : List ℕ) (r : Written) (left : List ℕ) : Type 0 where
+pub record WritesId (c : MessageCache) (row : ℕ) (out : List ℕ) (r : Result ℕ ShortRoom) (left : List ℕ) : Type 0 where
   pub answer : r ≡ answer (id_at message_id_size c.id_len c.ids row) out
   pub buffer : left ≡ written (id_at message_id_size c.id_len c.ids row) out
 
 -- ---- no choice
 same-put : (r s : PutDone) → r.answer ≡ s.answer → r.cache ≡ s.cache → r ≡ s
-same-put r s a b = ap₂ (λ (x : Put) (d : MessageCache). record { answer = x; cache = d }) a b
+same-put r s a b = ap₂ (λ (x : Result Kept PutError) (d : MessageCache). record { answer = x; cache = d }) a b
 
 same-told : (r s : GossipIds) → r.answer ≡ s.answer → r.count ≡ s.count → r.rows ≡ s.rows → r ≡ s
 same-told r s a b d =
-    ap₂ (λ (x : Gossip) (k : ℕ). record { answer = x; count = k; rows = r.rows }) a b
+    ap₂ (λ (x : Result (Unit {0}) GossipError) (k : ℕ). record { answer = x; count = k; rows = r.rows }) a b
     ∙ ap (λ (l : List ℕ). record { answer = s.answer; count = s.count; rows = l }) d
 
 pub one-start : (history max flags : ℕ) (r s : Started) → Starts history max flags r → Starts history max flags s
     → r ≡ s
 one-start history max flags r s a b =
-    ap₂ (λ (x : Start) (d : MessageCache). record { answer = x; cache = d }) (a.answer ∙ sym b.answer)
+    ap₂ (λ (x : Result (Unit {0}) Fault) (d : MessageCache). record { answer = x; cache = d }) (a.answer ∙ sym b.answer)
     (a.cache ∙ sym b.cache)
 
 pub one-put : (c : MessageCache) (st : List ℕ) (e : Edition) (body : List ℕ) (i : ℕ) (r s : PutDone)
@@ -90,7 +90,7 @@ one-keep c st m id r s left left2 a b = (
 
 pub one_shift : (c : MessageCache) (st : List ℕ) (r s : Shifted) → Shifts c st r → Shifts c st s → r ≡ s
 one_shift c st r s a b =
-    ap₂ (λ (x : Lent) (d : MessageCache). record { answer = x; cache = d }) (a.answer ∙ sym b.answer)
+    ap₂ (λ (x : Result (Unit {0}) Fault) (d : MessageCache). record { answer = x; cache = d }) (a.answer ∙ sym b.answer)
     (a.cache ∙ sym b.cache)
 
 pub one_gossip : (c : MessageCache) (st topic : List ℕ) (windows : ℕ) (r s : GossipIds) → Gossips c st topic windows r
@@ -107,6 +107,6 @@ pub one_form : (part : List ℕ) (a e b f : ℕ) (out : List ℕ) (r s : ℕ) (l
     → Forms part a e b f out r left → Forms part a e b f out s left2 → (r ≡ s) × (left ≡ left2)
 one_form part a e b f out r s left left2 x y = (x.count ∙ sym y.count, x.buffer ∙ sym y.buffer)
 
-pub one-id : (c : MessageCache) (row : ℕ) (out : List ℕ) (r s : Written) (left left2 : List ℕ)
+pub one-id : (c : MessageCache) (row : ℕ) (out : List ℕ) (r s : Result ℕ ShortRoom) (left left2 : List ℕ)
     → WritesId c row out r left → WritesId c row out s left2 → (r ≡ s) × (left ≡ left2)
 one-id c row out r s left left2 a b = (a.answer ∙ sym b.answer, a.buffer ∙ sym b.buffer)

@@ -1,5 +1,5 @@
 -- The test for a well formed cache asks exactly what the clauses of WellFormed say.
-use Rattle.std.specs.Prelude.{◌≡◌, ℕ, zero, suc, ◌+◌, ◌-◌, ◌%◌, ◌^◌, ◌<◌, ◌≤◌, true, ◌↔◌, List, [], ◌∷◌, map, length, ◌==◌, nat_le, slice_index, refl}
+use Rattle.std.specs.Prelude.{Ok, ◌≡◌, ℕ, zero, suc, ◌+◌, ◌-◌, ◌%◌, ◌^◌, ◌<◌, ◌≤◌, true, ◌↔◌, List, [], ◌∷◌, map, length, ◌==◌, nat_le, slice_index, refl}
 use Rattle.std.proofs.Common.{sym, ap, ◌∙◌, arith, zero-lt-suc, leb-true, le-leb, eqb-true, eq-eqb}
 use Rattle.std.proofs.Math.Nat.{sub-zero}
 use Rattle.basis.specs.Dialect.{mode_of}
@@ -13,7 +13,6 @@ use Rattle.admission.specs.Admission.{topics_of, topic_places, cut, gives_id}
 use Rattle.admission.specs.AdmissionLaws.{Gives, gives-own, gives-only}
 use Rattle.admission.specs.TopicLaws.{cut-topics, kept-own}
 use Rattle.mcache.specs.declared.MessageCache.{MessageCache}
-use Rattle.mcache.specs.declared.Lent.TheVariants as lent
 use Rattle.mcache.specs.State.{message_in, falls_from, runs_to, gives_at, gives_in, message_size, message_id_size, ring_of}
 use Rattle.mcache.specs.State.{table_of, topics_at}
 use Rattle.mcache.specs.Calls.{lent_of}
@@ -136,7 +135,7 @@ rows_give c st w =
     (gives_back c.flags (message_in c.len st (row_of c i)) (id_of c i) (w.gives i h)) (w.topics i h)))
 
 -- ---- well formed, exactly
-pub fine-well_formed : (c : MessageCache) (st : List ℕ) → Typed c → lent_of c st ≡ lent.Fine → WellFormed c st
+pub fine-well_formed : (c : MessageCache) (st : List ℕ) → Typed c → lent_of c st ≡ Ok tt → WellFormed c st
 fine-well_formed c st y f =
     let t = fine-tests c st f in
     record {
@@ -165,7 +164,7 @@ fine-well_formed c st y f =
       topics = row-topics c st t;
     }
 
-pub well_formed-fine : (c : MessageCache) (st : List ℕ) → WellFormed c st → lent_of c st ≡ lent.Fine
+pub well_formed-fine : (c : MessageCache) (st : List ℕ) → WellFormed c st → lent_of c st ≡ Ok tt
 well_formed-fine c st w =
     tests-fine c st
     record {
@@ -183,7 +182,7 @@ well_formed-fine c st w =
       once = all_once message_id_size c.id_len c.ids (ring_of c) w.once;
     }
 
-pub well_formed-exactly : (c : MessageCache) (st : List ℕ) → Typed c → (lent_of c st ≡ lent.Fine) ↔ WellFormed c st
+pub well_formed-exactly : (c : MessageCache) (st : List ℕ) → Typed c → (lent_of c st ≡ Ok tt) ↔ WellFormed c st
 well_formed-exactly c st y = (fine-well_formed c st y, well_formed-fine c st)
 
 -- ---- so in every state that the calls reach the kept places are those of the message's topics, and cut out of it they

@@ -1,5 +1,5 @@
 -- No answer depends on where the arrival number stands: the numbers wrap at 2 ^ 64.
-use Rattle.std.specs.Prelude.{◌≡◌, ℕ, zero, suc, ◌+◌, ◌%◌, ◌^◌, ◌<◌, ◌≤◌, Bool, true, false, ◌&&◌, List, [], ◌∷◌, map, length, ◌==◌, nat_eq, nat_le, slice_index, slice_set}
+use Rattle.std.specs.Prelude.{Result, Ok, Err, ◌≡◌, ℕ, zero, suc, ◌+◌, ◌%◌, ◌^◌, ◌<◌, ◌≤◌, Bool, true, false, ◌&&◌, List, [], ◌∷◌, map, length, ◌==◌, nat_eq, nat_le, slice_index, slice_set}
 use Rattle.std.proofs.Math.Path.{refl, ap}
 use Rattle.std.proofs.Common.{sym, ◌∙◌, arith}
 use Rattle.std.proofs.lemmas.List.{length-map}
@@ -11,20 +11,15 @@ use Rattle.rows.specs.declared.Ring.{Ring}
 use Rattle.rows.specs.Rows.{place_of}
 use Rattle.rows.specs.RowsLaws.{place-lt, ring_ext, map_ring}
 use Rattle.rows.specs.Store.{in_use}
-use Rattle.protobuf.specs.declared.Checked.{Checked}
-use Rattle.protobuf.specs.declared.Checked.TheVariants as checked
 use Rattle.protobuf.specs.Walk.{between}
-use Rattle.ids.specs.declared.MessageAt.{MessageAt}
-use Rattle.ids.specs.declared.MessageAt.TheVariants as at
 use Rattle.schema.specs.Accept.{accept_of}
 use Rattle.ids.specs.Ids.{message_at}
-use Rattle.admission.specs.declared.Admission.{Admission}
-use Rattle.admission.specs.declared.Admission.TheVariants as admission
 use Rattle.admission.specs.Flags.{known_flags}
 use Rattle.admission.specs.Admission.{admission_of}
 use Rattle.mcache.specs.declared.MessageCache.{MessageCache}
-use Rattle.mcache.specs.declared.Lent.{Lent}
-use Rattle.mcache.specs.declared.Lent.TheVariants as lent
+use Rattle.protobuf.specs.declared.Refusal.{Refusal}
+use Rattle.admission.specs.declared.Unfit.{Unfit}
+use Rattle.basis.specs.declared.Fault.{Fault}
 use Rattle.mcache.specs.State.{cached_at, cached_in, runs_to, rows_fit, ids_fit, legal, well_formed, dropped, passed}
 use Rattle.mcache.specs.State.{aged, message_limit, max_history, ring_of}
 use Rattle.mcache.specs.Calls.{lent_of, when_fine, index_in, entered, entered_store, shifted, found, gossip_list}
@@ -100,21 +95,22 @@ rows-moved k c st y f a b =
     )
 
 -- ---- what a put is to do
-fit-moved : (k : ℕ) (c : MessageCache) (p : List ℕ) (r : Admission) → plan_fit (moved k c) p r ≡ plan_fit c p r
+fit-moved : (k : ℕ) (c : MessageCache) (p : List ℕ) (r : Result ((ℕ × ℕ) × (ℕ × ℕ)) Unfit) → plan_fit (moved k c) p r ≡ plan_fit c p r
 unfolding moved index_in
-fit-moved k c p (admission.Unfit why) = refl
-fit-moved k c p (admission.Fit x y z w) = refl
+fit-moved k c p (Err why) = refl
+fit-moved k c p (Ok ((x, y), (z, w))) = refl
 
-at_moved : (k : ℕ) (c : MessageCache) (body : List ℕ) (r : MessageAt) → plan_at (moved k c) body r ≡ plan_at c body r
+at_moved : (k : ℕ) (c : MessageCache) (body : List ℕ) (r : Result (ℕ × ℕ) ℕ)
+    → plan_at (moved k c) body r ≡ plan_at c body r
 unfolding moved
-at_moved k c body (at.Count n) = refl
-at_moved k c body (at.At a e) = fit-moved k c (between body a e) (admission_of c.flags (between body a e) true)
+at_moved k c body (Err n) = refl
+at_moved k c body (Ok (a, e)) = fit-moved k c (between body a e) (admission_of c.flags (between body a e) true)
 
-body-moved : (k : ℕ) (c : MessageCache) (body : List ℕ) (i : ℕ) (r : Checked)
+body-moved : (k : ℕ) (c : MessageCache) (body : List ℕ) (i : ℕ) (r : Result (Unit {0}) Refusal)
     → plan_body (moved k c) body i r ≡ plan_body c body i r
 unfolding moved
-body-moved k c body i (checked.Refused why) = refl
-body-moved k c body i checked.Fine = at_moved k c body (message_at (mode_of c.flags) body i)
+body-moved k c body i (Err why) = refl
+body-moved k c body i (Ok tt) = at_moved k c body (message_at (mode_of c.flags) body i)
 
 -- ---- the state that a call leaves
 map-set : (f : ℕ → ℕ) (l : List ℕ) (p x : ℕ) → map f (slice_set l p x) ≡ slice_set (map f l) p (f x)
@@ -164,10 +160,10 @@ shifted-moved : (k : ℕ) (c : MessageCache) → shifted (moved k c) ≡ moved k
 unfolding shifted aged dropped moved
 shifted-moved k c = refl
 
-when_moved : (k : ℕ) (c d : MessageCache) (l : Lent) → when_fine l (moved k d) (moved k c) ≡ moved k (when_fine l d c)
-when_moved k c d lent.Fine = refl
-when_moved k c d lent.BadStore = refl
-when_moved k c d lent.Malformed = refl
+when_moved : (k : ℕ) (c d : MessageCache) (l : Result (Unit {0}) Fault)
+    → when_fine l (moved k d) (moved k c) ≡ moved k (when_fine l d c)
+when_moved k c d (Ok tt) = refl
+when_moved k c d (Err why) = refl
 
 module _ (k : ℕ) (c : MessageCache) (st : List ℕ) (y : Typed c) where
   well_formed-moved : well_formed (moved k c) st ≡ well_formed c st
@@ -235,6 +231,6 @@ module _ (k : ℕ) (c : MessageCache) (st : List ℕ) (y : Typed c) where
   pub wrap_free-shift : shift_cache (moved k c) st ≡ moved k (shift_cache c st)
   unfolding shift_cache
   wrap_free-shift =
-      ap (λ (l : Lent). when_fine l (shifted (moved k c)) (moved k c)) wrap_free
+      ap (λ (l : Result (Unit {0}) Fault). when_fine l (shifted (moved k c)) (moved k c)) wrap_free
       ∙ ap (λ (d : MessageCache). when_fine (lent_of c st) d (moved k c)) (shifted-moved k c)
       ∙ when_moved k c (shifted c) (lent_of c st)

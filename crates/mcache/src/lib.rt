@@ -6,6 +6,7 @@ pub mod told;
 
 ghost use Rattle.std.specs.Prelude.{◌≡◌, ℕ, ◌+◌, ◌-◌, ◌*◌, ◌<◌, ◌≤◌, true, ◌++◌, map, length, take, drop, replicate, if◌then◌else◌, slice_index};
 ghost use Rattle.std.proofs.lemmas.List.Edits.{sets};
+ghost use Rattle.basis.specs.declared.Fault.TheVariants.{BadSetting};
 ghost use Rattle.basis.specs.Dialect.{mode_of};
 ghost use Rattle.rows.specs.Rows.{place_of};
 ghost use Rattle.rows.specs.Ids.{among};
@@ -19,15 +20,11 @@ ghost use Rattle.mcache.specs.Calls.{kept_in, stored_in, get_part, lookup_answer
 ghost use Rattle.mcache.specs.Messages.{offer_for};
 ghost use Rattle.mcache.specs.Unique.{Starts, Puts, Keeps, Shifts, Gossips, TellsRows, Forms, WritesId};
 
-use admission::{
-    Admission, MAX_TOPIC_SIZE, MAX_TOPICS, Unfit, admit, kept_with, known_flags, topics_of,
-};
-use basis::{Dialect, Edition, Written, has_room, least, mode_of};
-use ids::{MessageAt, message_at};
-use protobuf::{Checked, Refusal, put_bytes};
-use rows::{
-    Ring, all_within, byte_at, find_from, id_at, ids_differ, minus, place, precedes, same, short_at,
-};
+use admission::{MAX_TOPIC_SIZE, MAX_TOPICS, Unfit, admit, kept_with, known_flags, topics_of};
+use basis::{Dialect, Edition, Fault, ShortRoom, has_room, least, mode_of};
+use ids::message_at;
+use protobuf::{Refusal, put_bytes};
+use rows::{Ring, Store, all_within, at_or, place, precedes, same};
 use schema::accept;
 
 pub const MESSAGE_SIZE: usize = 4096;
@@ -56,32 +53,23 @@ pub struct MessageCache {
     pub flags: usize,
 }
 
-// Whether the lent state is one: 41 for a store of the wrong length, 42 for a cache that is not well formed.
-#[derive(Clone, Copy)]
-pub enum Lent {
-    Fine,
-    BadStore,
-    Malformed,
-}
-
-#[derive(Clone, Copy)]
-pub enum Start {
-    Started,
-    BadSetting,
-}
-
 #[derive(Clone, Copy)]
 pub struct Started {
-    pub answer: Start,
+    pub answer: Result<(), Fault>,
     pub cache: MessageCache,
 }
 
+// Whether a message came in, or was held already.
 #[derive(Clone, Copy)]
-pub enum Put {
+pub enum Kept {
     Stored,
     Held,
-    BadStore,
-    Malformed,
+}
+
+// Why a message was not put.
+#[derive(Clone, Copy)]
+pub enum PutError {
+    Faulty(Fault),
     Refused(Refusal),
     NoMessage(usize),
     Unfit(Unfit),
@@ -89,29 +77,20 @@ pub enum Put {
 
 #[derive(Clone, Copy)]
 pub struct PutDone {
-    pub answer: Put,
+    pub answer: Result<Kept, PutError>,
     pub cache: MessageCache,
 }
 
 #[derive(Clone, Copy)]
 pub struct Shifted {
-    pub answer: Lent,
+    pub answer: Result<(), Fault>,
     pub cache: MessageCache,
 }
 
+// Why no ids are told.
 #[derive(Clone, Copy)]
-pub enum Lookup {
-    Found,
-    Missing,
-    BadStore,
-    Malformed,
-}
-
-#[derive(Clone, Copy)]
-pub enum Gossip {
-    Ids,
-    BadStore,
-    Malformed,
+pub enum GossipError {
+    Faulty(Fault),
     TopicTooLong(usize),
 }
 
@@ -128,7 +107,7 @@ pub enum Offer {
 // The places of the messages that are told of, in the order of their ids: the first `count` of rows.
 #[derive(Clone, Copy)]
 pub struct GossipIds {
-    pub answer: Gossip,
+    pub answer: Result<(), GossipError>,
     pub count: usize,
     pub rows: [u8; MAX_MESSAGES],
 }
@@ -136,42 +115,41 @@ pub struct GossipIds {
 // ---- the test of the lent state
 
 // Whether each window's age is at most the one before it, the first at most `most`.
+#[tactic(auto, using(crate::proofs::Walks::walked), unfolding(crate::specs::State::falls_from, rows::specs::Store::in_use))]
 fn windows_fall(window: &[u8], ring: Ring, most: usize) -> bool
     requires { InStore ring window.now }
     ensures { result ≡ falls_from most (in_use ring window.now) }
 {
     let mut last = most;
-    let mut i = 0;
-    while i < ring.count {
+    for i in 0..ring.count {
         let p = place(ring, i);
         let w = window[p] as usize;
         if last < w {
             return false;
         }
         last = w;
-        i += 1;
     }
     true
 }
 
 // Whether the arrival numbers go up by one from old to new and on to the next: the age of a row among those that live is a wrapping difference.
+#[tactic(auto, using(crate::proofs::Walks::walked), unfolding(crate::specs::State::runs_to, rows::specs::Store::in_use))]
 fn generations_run(generation: &[u64], ring: Ring, next: u64) -> bool
     requires { InStore ring generation.now }
     ensures { result ≡ runs_to next (in_use ring generation.now) }
 {
-    let mut i = 0;
-    while i < ring.count {
+    for i in 0..ring.count {
         let p = place(ring, i);
         let age = std::num::wrapping_sub_u64(next, generation[p]);
         if age != (ring.count - i) as u64 {
             return false;
         }
-        i += 1;
     }
     true
 }
 
 // Whether each message fits its place, may be taken under the flags, gives its stored id, and has its topics where they are kept.
+#[tactic(auto, using(crate::proofs::Walks::walked), unfolding(crate::specs::State::gives_in, crate::specs::State::all_true))]
 fn messages_fit(
     lens: &[u16],
     id_lens: &[u8],
@@ -186,8 +164,7 @@ fn messages_fit(
     requires { Laid ring lens.now id_lens.now ids.now (table counts.now starts.now sizes.now) store.now }
     ensures { result ≡ gives_in flags ring lens.now id_lens.now ids.now (table counts.now starts.now sizes.now) store.now }
 {
-    let mut i = 0;
-    while i < ring.count {
+    for i in 0..ring.count {
         let p = place(ring, i);
         let n = lens[p] as usize;
         if MESSAGE_SIZE < n {
@@ -199,7 +176,7 @@ fn messages_fit(
         let id_end = id_base + id_lens[p] as usize;
         let slot = p * MAX_TOPICS;
         let topics = counts[p] as usize;
-        if kept_with(
+        if !kept_with(
             &store[base..end],
             &ids[id_base..id_end],
             topics,
@@ -207,8 +184,6 @@ fn messages_fit(
             &sizes[slot..],
             flags,
         ) {
-            i += 1;
-        } else {
             return false;
         }
     }
@@ -217,66 +192,43 @@ fn messages_fit(
 
 // ---- shifting
 
-// A window's age, a window later.
-fn older_than(age: u8) -> u8
-    ensures { result ≡ older age }
-{
-    if age < 255 {
-        return age + 1;
-    }
-    age
-}
-
+// Each window's age, a window later.
 fn age_windows(window: &mut [u8])
     ensures { window.new ≡ map older window.old }
 {
-    let mut i = 0;
-    while i < window.len() {
-        let w = window[i];
-        window[i] = older_than(w);
-        i += 1;
+    for age in window.iter_mut() {
+        *age = age.saturating_add(1);
     }
 }
 
 // How many of the oldest leave when a window is opened: those in front of the first that stays.
+#[tactic(auto, using(crate::proofs::Walks::walked), unfolding(crate::specs::State::stale, rows::specs::Store::in_use))]
 fn stale_rows(window: &[u8], ring: Ring, history_len: usize) -> usize
     ensures { result ≡ stale history_len (in_use ring window.now) }
 {
-    let mut i = 0;
-    while i < ring.count {
+    for i in 0..ring.count {
         let p = place(ring, i);
-        let w = byte_at(window, p) as usize;
+        let w = at_or(window, p, 0) as usize;
         if w + 1 < history_len {
             return i;
         }
-        i += 1;
     }
-    i
+    ring.count
 }
 
 // ---- putting
 
 // Whether from and seqno lie within n bytes, and m bytes have room for both.
+#[tactic(auto, unfolding(crate::specs::Calls::formable))]
 fn can_form(n: usize, a: usize, e: usize, b: usize, f: usize, m: usize) -> bool
     ensures { result ≡ formable n a e b f m }
 {
-    if e < a {
-        return false;
-    }
-    if n < e {
-        return false;
-    }
-    if f < b {
-        return false;
-    }
-    if n < f {
-        return false;
-    }
-    has_room(m, e - a, f - b)
+    a <= e && e <= n && b <= f && f <= n && has_room(m, e - a, f - b)
 }
 
 // Writes the id of a message, from and then seqno, at the front of out, and answers its length; 0 and nothing, where they do not lie in the part or
 // out has no room.
+#[tactic(auto, using(std::proofs::lemmas::Bool::Decides::nat_tests), unfolding(crate::specs::Calls::formable))]
 pub fn form_id(part: &[u8], a: usize, e: usize, b: usize, f: usize, out: &mut [u8]) -> usize
     ensures { Forms part.now a e b f out.old result out.new }
 {
@@ -292,42 +244,27 @@ fn put_shorts(out: &mut [u16], at: usize, values: &[usize], n: usize)
     requires { (at + n ≤ length out.old) × (n ≤ length values.now) × ((i : ℕ) → i < n → slice_index values.now i < 65536) }
     ensures { out.new ≡ sets out.old at (take n values.now) }
 {
-    let mut i = 0;
-    while i < n {
+    for i in 0..n {
         out[at + i] = values[i] as u16;
-        i += 1;
     }
 }
 
 // ---- what keep and tell ask of the rows
 
 // Whether the rows lie within the arrays.
+#[tactic(auto, unfolding(crate::specs::Calls::rows_lie))]
 fn rows_lie(ring: Ring) -> bool
     ensures { result ≡ rows_lie ring }
 {
-    if MAX_MESSAGES < ring.cap {
-        return false;
-    }
-    if ring.cap < ring.start {
-        return false;
-    }
-    ring.count <= ring.cap
+    ring.cap <= MAX_MESSAGES && ring.start <= ring.cap && ring.count <= ring.cap
 }
 
 // Whether a store of s bytes has their places too, and a message of m bytes and an id of i fit theirs.
+#[tactic(auto, unfolding(crate::specs::Calls::keepable))]
 fn can_keep(ring: Ring, s: usize, m: usize, i: usize) -> bool
     ensures { result ≡ keepable ring s m i }
 {
-    if rows_lie(ring) {
-        if s != ring.cap * MESSAGE_SIZE {
-            return false;
-        }
-        if MESSAGE_SIZE < m {
-            return false;
-        }
-        return i <= MESSAGE_ID_SIZE;
-    }
-    false
+    rows_lie(ring) && s == ring.cap * MESSAGE_SIZE && m <= MESSAGE_SIZE && i <= MESSAGE_ID_SIZE
 }
 
 // ---- telling
@@ -336,40 +273,36 @@ fn can_keep(ring: Ring, s: usize, m: usize, i: usize) -> bool
 fn part_of<'s>(bytes: &'s [u8], start: usize, len: usize) -> &'s [u8]
     ensures { result.now ≡ take len (drop start bytes.now) }
 {
-    if bytes.len() < start {
-        return &bytes[..0];
-    }
-    if bytes.len() - start < len {
-        return &bytes[start..];
-    }
-    &bytes[start..start + len]
+    let rest = &bytes[start.min(bytes.len())..];
+    &rest[..len.min(rest.len())]
 }
 
 // The message in place p: cut at the end of the store.
+#[tactic(auto, unfolding(crate::specs::State::message_in))]
 fn message_in<'l, 's>(lens: &'l [u16], store: &'s [u8], p: usize) -> &'s [u8]
     requires { p < message_limit }
     ensures { result.now ≡ message_in lens.now store.now p }
 {
-    part_of(store, p * MESSAGE_SIZE, short_at(lens, p) as usize)
+    part_of(store, p * MESSAGE_SIZE, at_or(lens, p, 0) as usize)
 }
 
 // Whether one of the first n parts of a message is the topic.
+#[tactic(auto, using(crate::proofs::Walks::part_walked), unfolding(rows::specs::Ids::among))]
 fn carries(message: &[u8], starts: &[u16], sizes: &[u16], n: usize, topic: &[u8]) -> bool
     ensures { result ≡ among topic.now (map (cut message.now) (spans_in starts.now sizes.now n)) }
 {
-    let mut i = 0;
-    while i < n {
-        let start = short_at(starts, i) as usize;
-        let len = short_at(sizes, i) as usize;
+    for i in 0..n {
+        let start = at_or(starts, i, 0) as usize;
+        let len = at_or(sizes, i, 0) as usize;
         if same(part_of(message, start, len), topic) {
             return true;
         }
-        i += 1;
     }
     false
 }
 
 // Whether the message in place p carries the topic, by what is kept of it.
+#[tactic(auto, unfolding(crate::specs::State::topics_at))]
 fn has_topic(
     lens: &[u16],
     counts: &[u8],
@@ -383,7 +316,7 @@ fn has_topic(
     ensures { result ≡ has_topic lens.now (table counts.now starts.now sizes.now) store.now topic.now p }
 {
     let first = p * MAX_TOPICS;
-    let n = byte_at(counts, p) as usize;
+    let n = at_or(counts, p, 0) as usize;
     carries(
         message_in(lens, store, p),
         &starts[first..],
@@ -394,6 +327,7 @@ fn has_topic(
 }
 
 // Whether the message in place p is in the newest windows asked for and carries the topic.
+#[tactic(auto, unfolding(crate::specs::State::told))]
 fn is_told(
     window: &[u8],
     lens: &[u16],
@@ -408,14 +342,12 @@ fn is_told(
     requires { (p < message_limit) × Roomy (table counts.now starts.now sizes.now) }
     ensures { result ≡ told window.now lens.now (table counts.now starts.now sizes.now) store.now windows topic.now p }
 {
-    let w = byte_at(window, p) as usize;
-    if windows <= w {
-        return false;
-    }
-    has_topic(lens, counts, starts, sizes, store, p, topic)
+    (at_or(window, p, 0) as usize) < windows
+        && has_topic(lens, counts, starts, sizes, store, p, topic)
 }
 
 // What is said of a message: the topic is named before the window.
+#[tactic(auto, using(std::proofs::lemmas::Bool::Decides::nat_tests))]
 fn offer_for(carried: bool, age: usize, windows: usize) -> Offer
     ensures { result ≡ offer_for carried age windows }
 {
@@ -429,21 +361,24 @@ fn offer_for(carried: bool, age: usize, windows: usize) -> Offer
 }
 
 // Where the row p goes among the first n of `rows`: before the first whose id does not come before its own.
+#[tactic(auto, unfolding(crate::specs::State::spot_of))]
 fn spot(rows: &[u8], n: usize, id_lens: &[u8], ids: &[u8], p: usize) -> usize
     requires { n ≤ length rows.now }
     ensures { result ≡ spot_of (id_at message_id_size id_lens.now ids.now) p (take n rows.now) }
 {
-    let own = id_at(id_lens, ids, MESSAGE_ID_SIZE, p);
-    let mut i = 0;
-    while i < n {
+    let held = Store {
+        lens: id_lens,
+        ids,
+        size: MESSAGE_ID_SIZE,
+    };
+    let own = held.id_at(p);
+    for i in 0..n {
         let q = rows[i] as usize;
-        if precedes(id_at(id_lens, ids, MESSAGE_ID_SIZE, q), own) {
-            i += 1;
-        } else {
+        if !precedes(held.id_at(q), own) {
             return i;
         }
     }
-    i
+    n
 }
 
 // Puts p at `at` among the first n of `rows`, and moves the rest of them up by one.
@@ -451,14 +386,8 @@ fn put_row(rows: &mut [u8], n: usize, at: usize, p: u8)
     requires { (at ≤ n) × (n < length rows.old) }
     ensures { rows.new ≡ put_at at p (take n rows.old) ++ drop (n + 1) rows.old }
 {
-    let mut v = p;
-    let mut i = at;
-    while i <= n {
-        let old = rows[i];
-        rows[i] = v;
-        v = old;
-        i += 1;
-    }
+    rows.copy_within(at..n, at + 1);
+    rows[at] = p;
 }
 
 // Puts the row p into its spot among the first n of `rows`, where it is to be there; and how many there are then.
@@ -493,7 +422,7 @@ impl MessageCache {
             return MessageCache::refused();
         }
         Started {
-            answer: Start::Started,
+            answer: Ok(()),
             cache: MessageCache::empty(history_len, max_messages, flags),
         }
     }
@@ -532,16 +461,17 @@ impl MessageCache {
 
     // The answer to settings out of range, beside a cache that keeps nothing.
     fn refused() -> Started
-        ensures answer_value { result.answer ≡ Start.BadSetting }
+        ensures answer_value { result.answer ≡ Err BadSetting }
         ensures cache_value { result.cache ≡ fresh 1 0 0 }
     {
         Started {
-            answer: Start::BadSetting,
+            answer: Err(Fault::BadSetting),
             cache: MessageCache::empty(1, 0, 0),
         }
     }
 
     // Whether the messages are well formed, where the settings, the counts and the store's length were tested.
+    #[tactic(auto, unfolding(crate::specs::State::ids_fit))]
     fn ids_fit(self, store: &[u8]) -> bool
         requires { (self.max_messages ≤ message_limit) × (self.start ≤ self.max_messages) × (self.count ≤ self.max_messages) × (length store.now ≡ self.max_messages * message_size) }
         ensures { result ≡ ids_fit self store.now }
@@ -553,17 +483,20 @@ impl MessageCache {
         let counts = self.topic_count;
         let starts = self.topic_start;
         let sizes = self.topic_len;
-        if all_within(&id_lens, ring, MESSAGE_ID_SIZE as u8) {
-            if messages_fit(
+        let held = Store {
+            lens: &id_lens,
+            ids: &ids,
+            size: MESSAGE_ID_SIZE,
+        };
+        all_within(&id_lens, ring, MESSAGE_ID_SIZE as u8)
+            && messages_fit(
                 &lens, &id_lens, &ids, &counts, &starts, &sizes, store, ring, self.flags,
-            ) {
-                return ids_differ(&id_lens, &ids, MESSAGE_ID_SIZE, ring);
-            }
-        }
-        false
+            )
+            && held.differ(ring)
     }
 
     // Whether the rows are well formed, where the settings, the counts and the store's length were tested.
+    #[tactic(auto, unfolding(crate::specs::State::rows_fit))]
     fn rows_fit(self, store: &[u8]) -> bool
         requires max_messages_bound { (self.max_messages ≤ message_limit) × (self.start ≤ self.max_messages) × (self.count ≤ self.max_messages) × (length store.now ≡ self.max_messages * message_size) }
         requires bound { 1 ≤ self.history_len }
@@ -572,48 +505,45 @@ impl MessageCache {
         let ring = self.ring();
         let window = self.window;
         let generation = self.generation;
-        if windows_fall(&window, ring, self.history_len - 1) {
-            if generations_run(&generation, ring, self.next_generation) {
-                return self.ids_fit(store);
-            }
-        }
-        false
+        windows_fall(&window, ring, self.history_len - 1)
+            && generations_run(&generation, ring, self.next_generation)
+            && self.ids_fit(store)
     }
 
     // Whether a store and the cache can be used together.
-    pub fn lent(self, store: &[u8]) -> Lent
+    pub fn lent(self, store: &[u8]) -> Result<(), Fault>
         ensures { result ≡ lent_of self store.now }
     {
         let max = self.max_messages;
         if store.len() / MESSAGE_SIZE != max {
-            return Lent::BadStore;
+            return Err(Fault::BadStore);
         }
         if store.len() % MESSAGE_SIZE != 0 {
-            return Lent::BadStore;
+            return Err(Fault::BadStore);
         }
         let history_len = self.history_len;
         if history_len == 0 {
-            return Lent::Malformed;
+            return Err(Fault::Malformed);
         }
         if MAX_HISTORY < history_len {
-            return Lent::Malformed;
+            return Err(Fault::Malformed);
         }
         if MAX_MESSAGES < max {
-            return Lent::Malformed;
+            return Err(Fault::Malformed);
         }
         if !known_flags(self.flags) {
-            return Lent::Malformed;
+            return Err(Fault::Malformed);
         }
         if max < self.start {
-            return Lent::Malformed;
+            return Err(Fault::Malformed);
         }
         if max < self.count {
-            return Lent::Malformed;
+            return Err(Fault::Malformed);
         }
         if self.rows_fit(store) {
-            return Lent::Fine;
+            return Ok(());
         }
-        Lent::Malformed
+        Err(Fault::Malformed)
     }
 
     // Without the k oldest.
@@ -687,7 +617,7 @@ impl MessageCache {
             self.next_generation = std::num::wrapping_add_u64(self.next_generation, 1);
             return self;
         }
-        let k = minus(self.count + 1, max);
+        let k = (self.count + 1).saturating_sub(max);
         let rest = self.without(k);
         rest.append(store, part, id, n, from, long)
     }
@@ -699,7 +629,12 @@ impl MessageCache {
         let ring = self.ring();
         let id_lens = self.id_len;
         let ids = self.ids;
-        find_from(&id_lens, &ids, MESSAGE_ID_SIZE, ring, 0, id)
+        let held = Store {
+            lens: &id_lens,
+            ids: &ids,
+            size: MESSAGE_ID_SIZE,
+        };
+        held.find_from(ring, 0, id)
     }
 
     // Puts a message under its id into a state that the caller tested; it tests only that the rows lie in the arrays and the store, and that both
@@ -712,7 +647,7 @@ impl MessageCache {
             let row = self.find(id);
             if row < self.count {
                 return PutDone {
-                    answer: Put::Held,
+                    answer: Ok(Kept::Held),
                     cache: self,
                 };
             }
@@ -722,14 +657,11 @@ impl MessageCache {
             let n = least(t.count, MAX_TOPICS);
             let cache = self.enter(store, part, id, n, &from, &long);
             return PutDone {
-                answer: Put::Stored,
+                answer: Ok(Kept::Stored),
                 cache,
             };
         }
-        PutDone {
-            answer: Put::Malformed,
-            cache: self,
-        }
+        self.not_put(PutError::Faulty(Fault::Malformed))
     }
 
     // Puts the message in a part, where the state was tested.
@@ -739,20 +671,11 @@ impl MessageCache {
         ensures cache_value { result.cache ≡ kept_in self (plan_fit self part.now (admission_of self.flags part.now true)) }
         ensures store_after { store.new ≡ stored_in self store.old (plan_fit self part.now (admission_of self.flags part.now true)) }
     {
-        let a = admit(part, true, self.flags);
-        match a {
-            Admission::Unfit(why) => PutDone {
-                answer: Put::Unfit(why),
-                cache: self,
-            },
-            Admission::Fit {
-                from_start,
-                from_end,
-                seqno_start,
-                seqno_end,
-            } => {
+        match admit(part, true, self.flags) {
+            Err(why) => self.not_put(PutError::Unfit(why)),
+            Ok(((a, e), (b, f))) => {
                 let mut id = [0u8; MESSAGE_ID_SIZE];
-                let n = form_id(part, from_start, from_end, seqno_start, seqno_end, &mut id);
+                let n = form_id(part, a, e, b, f, &mut id);
                 self.keep(store, part, &id[..n])
             }
         }
@@ -762,36 +685,26 @@ impl MessageCache {
     pub fn put(self, store: &mut [u8], edition: Edition, body: &[u8], index: usize) -> PutDone
         ensures { Puts self store.old edition body.now index result store.new }
     {
-        let lent = self.lent(store);
-        match lent {
-            Lent::BadStore => PutDone {
-                answer: Put::BadStore,
-                cache: self,
-            },
-            Lent::Malformed => PutDone {
-                answer: Put::Malformed,
-                cache: self,
-            },
-            Lent::Fine => {
-                let mode = mode_of(self.flags as u64);
-                let c = accept(Dialect { edition, mode }, body);
-                match c {
-                    Checked::Refused(why) => PutDone {
-                        answer: Put::Refused(why),
-                        cache: self,
-                    },
-                    Checked::Fine => {
-                        let m = message_at(mode, body, index);
-                        match m {
-                            MessageAt::Count(n) => PutDone {
-                                answer: Put::NoMessage(n),
-                                cache: self,
-                            },
-                            MessageAt::At { start, end } => self.put_part(store, &body[start..end]),
-                        }
-                    }
-                }
-            }
+        if let Err(why) = self.lent(store) {
+            return self.not_put(PutError::Faulty(why));
+        }
+        let mode = mode_of(self.flags as u64);
+        if let Err(why) = accept(Dialect { edition, mode }, body) {
+            return self.not_put(PutError::Refused(why));
+        }
+        match message_at(mode, body, index) {
+            Err(n) => self.not_put(PutError::NoMessage(n)),
+            Ok((start, end)) => self.put_part(store, &body[start..end]),
+        }
+    }
+
+    // A refusal, with the cache as it was.
+    fn not_put(self, why: PutError) -> PutDone
+        ensures { result ≡ record { answer = Err why; cache = self } }
+    {
+        PutDone {
+            answer: Err(why),
+            cache: self,
         }
     }
 
@@ -811,24 +724,13 @@ impl MessageCache {
     pub fn shift(self, store: &[u8]) -> Shifted
         ensures { Shifts self store.now result }
     {
-        let lent = self.lent(store);
-        match lent {
-            Lent::BadStore => Shifted {
-                answer: Lent::BadStore,
-                cache: self,
-            },
-            Lent::Malformed => Shifted {
-                answer: Lent::Malformed,
-                cache: self,
-            },
-            Lent::Fine => {
-                let cache = self.next_window();
-                Shifted {
-                    answer: Lent::Fine,
-                    cache,
-                }
-            }
-        }
+        let answer = self.lent(store);
+        let cache = if answer.is_ok() {
+            self.next_window()
+        } else {
+            self
+        };
+        Shifted { answer, cache }
     }
 
     // The part of the store that holds the message with an id, where the state was tested; empty for none.
@@ -850,29 +752,18 @@ impl MessageCache {
     pub fn get<'s, 'i>(self, store: &'s [u8], id: &'i [u8]) -> &'s [u8]
         ensures { result.now ≡ get_part self store.now id.now }
     {
-        let lent = self.lent(store);
-        match lent {
-            Lent::BadStore => &store[..0],
-            Lent::Malformed => &store[..0],
-            Lent::Fine => self.message_of(store, id),
+        if self.lent(store).is_err() {
+            return &store[..0];
         }
+        self.message_of(store, id)
     }
 
     // Why `get` gave what it gave.
-    pub fn lookup(self, store: &[u8], id: &[u8]) -> Lookup
+    pub fn lookup(self, store: &[u8], id: &[u8]) -> Result<bool, Fault>
         ensures { result ≡ lookup_answer self store.now id.now }
     {
-        let lent = self.lent(store);
-        match lent {
-            Lent::BadStore => Lookup::BadStore,
-            Lent::Malformed => Lookup::Malformed,
-            Lent::Fine => {
-                if self.find(id) < self.count {
-                    return Lookup::Found;
-                }
-                Lookup::Missing
-            }
-        }
+        self.lent(store)?;
+        Ok(self.find(id) < self.count)
     }
 
     // The messages of the newest windows asked for that carry the topic, of a state that the caller tested; it tests only that the rows lie in the
@@ -891,22 +782,20 @@ impl MessageCache {
             let sizes = self.topic_len;
             let mut rows = [0u8; MAX_MESSAGES];
             let mut count = 0;
-            let mut i = 0;
-            while i < ring.count {
+            for i in 0..ring.count {
                 let p = place(ring, i);
                 let there = is_told(
                     &window, &lens, &counts, &starts, &sizes, store, p, windows, topic,
                 );
                 count = tell_row(there, &mut rows, count, &id_lens, &ids, p);
-                i += 1;
             }
             return GossipIds {
-                answer: Gossip::Ids,
+                answer: Ok(()),
                 count,
                 rows,
             };
         }
-        MessageCache::untold(Gossip::Malformed)
+        MessageCache::untold(Err(GossipError::Faulty(Fault::Malformed)))
     }
 
     // Whether an id is among those, and why not, of a state that the caller tested; it tests only that the rows lie in the arrays.
@@ -924,7 +813,7 @@ impl MessageCache {
                 let starts = self.topic_start;
                 let sizes = self.topic_len;
                 let carried = has_topic(&lens, &counts, &starts, &sizes, store, p, topic);
-                let age = byte_at(&window, p) as usize;
+                let age = at_or(&window, p, 0) as usize;
                 return offer_for(carried, age, windows);
             }
         }
@@ -932,7 +821,7 @@ impl MessageCache {
     }
 
     // No ids.
-    fn untold(answer: Gossip) -> GossipIds
+    fn untold(answer: Result<(), GossipError>) -> GossipIds
         ensures answer_value { result.answer ≡ answer }
         ensures count_value { result.count ≡ 0 }
         ensures rows_value { result.rows ≡ replicate message_limit 0 }
@@ -948,30 +837,31 @@ impl MessageCache {
     pub fn gossip_ids(self, store: &[u8], topic: &[u8], windows: usize) -> GossipIds
         ensures { Gossips self store.now topic.now windows result }
     {
-        let lent = self.lent(store);
-        match lent {
-            Lent::BadStore => MessageCache::untold(Gossip::BadStore),
-            Lent::Malformed => MessageCache::untold(Gossip::Malformed),
-            Lent::Fine => {
-                if MAX_TOPIC_SIZE < topic.len() {
-                    return MessageCache::untold(Gossip::TopicTooLong(topic.len()));
-                }
-                self.tell(store, topic, windows)
-            }
+        if let Err(why) = self.lent(store) {
+            return MessageCache::untold(Err(GossipError::Faulty(why)));
         }
+        if MAX_TOPIC_SIZE < topic.len() {
+            return MessageCache::untold(Err(GossipError::TopicTooLong(topic.len())));
+        }
+        self.tell(store, topic, windows)
     }
 
     // Writes the id in a place, as `gossip_ids` answers places, at the front of out; a place past the last has none.
-    pub fn id_at(self, row: usize, out: &mut [u8]) -> Written
+    pub fn id_at(self, row: usize, out: &mut [u8]) -> Result<usize, ShortRoom>
         ensures { WritesId self row out.old result out.new }
     {
         let id_lens = self.id_len;
         let ids = self.ids;
-        let id = id_at(&id_lens, &ids, MESSAGE_ID_SIZE, row);
+        let held = Store {
+            lens: &id_lens,
+            ids: &ids,
+            size: MESSAGE_ID_SIZE,
+        };
+        let id = held.id_at(row);
         if out.len() < id.len() {
-            return Written::Room(id.len());
+            return Err(ShortRoom { needed: id.len() });
         }
         put_bytes(out, 0, id);
-        Written::Bytes(id.len())
+        Ok(id.len())
     }
 }

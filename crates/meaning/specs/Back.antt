@@ -1,8 +1,7 @@
 -- The records that were written, read back, are the RPC that the body means.
-use Rattle.std.specs.Prelude.{ℕ, ◌+◌, ◌-◌, ◌≡◌, refl, Bool, true, false, cond, ◌&&◌, ◌||◌, List, [], ◌∷◌, ◌++◌, length, take, eqb}
+use Rattle.std.specs.Prelude.{Option, Some, None, ℕ, ◌+◌, ◌-◌, ◌≡◌, refl, Bool, true, false, cond, ◌&&◌, ◌||◌, List, [], ◌∷◌, ◌++◌, length, take, eqb}
 use Rattle.std.proofs.Common.{sym, ap, ap₂, subst, ◌∙◌, append-nil, arith, eqb-true}
 use Rattle.std.proofs.Math.Bool.{and-false}
-use Rattle.std.proofs.Math.Option.{Option, none, some}
 use Rattle.std.proofs.Math.Seq.{take-length}
 use Rattle.basis.specs.declared.Mode.{Mode}
 use Rattle.basis.specs.declared.Edition.{Edition}
@@ -310,7 +309,7 @@ raw-part mode b base p k q = sym q.here
 pub slot_value : (mode : Mode) (b : List ℕ) (base : ℕ) (p : List ℕ) (k : Kind) (g : Slots → Place) (m : ℕ)
     (fs : List Field)
     (es : List Entry) → Part b base p → Feeds k g m → fields_of mode p ≡ whole fs → entries_of p fs ≡ es
-    → bytes_at b base (g no_slots) ≡ none → bytes_at b base (g (slots_of mode k p)) ≡ last (bytes_in m es)
+    → bytes_at b base (g no_slots) ≡ None → bytes_at b base (g (slots_of mode k p)) ≡ last (bytes_in m es)
 unfolding slots_of
 slot_value mode b base p k g m fs es q feed w e z =
     ap (λ (x : Fields). bytes_at b base (g (slots_along k no_slots x))) w ∙ slot_last b base p k g m q feed fs no_slots
@@ -1069,11 +1068,11 @@ join-empty c =
       append-nil c.idontwant,
     )
 
-pub joined-some : (c : ControlMessage) (cs : List ControlMessage) → joined (c ∷ cs) ≡ some (flat (c ∷ cs))
-joined-some c [] = ap some (sym (join-empty c))
+pub joined-some : (c : ControlMessage) (cs : List ControlMessage) → joined (c ∷ cs) ≡ Some (flat (c ∷ cs))
+joined-some c [] = ap Some (sym (join-empty c))
 joined-some c (d ∷ cs) = ap (join_to c) (joined-some d cs)
 
-pub joined-flat : (cs : List ControlMessage) → cond (any cs) (some (flat cs)) none ≡ joined cs
+pub joined-flat : (cs : List ControlMessage) → cond (any cs) (Some (flat cs)) None ≡ joined cs
 joined-flat [] = refl
 joined-flat (c ∷ cs) = sym (joined-some c cs)
 

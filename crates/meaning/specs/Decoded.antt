@@ -1,9 +1,8 @@
 -- Reading a body in a dialect, as theorems about what `decode` tells and leaves, by the scope's numbers and the values
 -- beside them: accepted exactly where the body means an RPC within capacity and the table has room; the table then says
 -- that RPC; and each refusal exactly where the scope gives it.
-use Rattle.std.specs.Prelude.{ℕ, ◌+◌, ◌*◌, ◌/◌, ◌≤◌, ◌<◌, ◌≡◌, refl, Bool, true, false, cond, List, [], ◌∷◌, ◌≢◌, ◌↔◌, length, drop, ltb, eqb}
+use Rattle.std.specs.Prelude.{Option, Some, None, Result, Ok, Err, ℕ, ◌+◌, ◌*◌, ◌/◌, ◌≤◌, ◌<◌, ◌≡◌, refl, Bool, true, false, cond, List, [], ◌∷◌, ◌≢◌, ◌↔◌, length, drop, ltb, eqb}
 use Rattle.std.proofs.Common.{sym, ap, ap₂, subst, ◌∙◌, arith, drop_at, ltb-true, ltb-false, lt-ltb, le-ltb}
-use Rattle.std.proofs.Math.Option.{Option, none, some}
 use Rattle.std.proofs.lemmas.List.Edits.{sets, sets-eq}
 use Rattle.std.proofs.Math.Seq.{length-sets}
 use Rattle.basis.specs.declared.Mode.{Mode}
@@ -12,7 +11,7 @@ use Rattle.basis.specs.declared.Told.{Told}
 use Rattle.basis.specs.Refusals.{too_large, too_many-records, short-room}
 use Rattle.basis.specs.declared.Spot.{Spot}
 use Rattle.basis.specs.Told.{told, placed, done}
-use Rattle.basis.specs.Cases.{either, clash}
+use Rattle.basis.specs.Cases.{either, clash, of-ok-two}
 use Rattle.basis.specs.Bytes.{Bytes}
 use Rattle.utf8.specs.Utf8.{is_utf8}
 use Rattle.protobuf.specs.declared.Field.{Field}
@@ -30,10 +29,8 @@ use Rattle.schema.specs.declared.Form.{Form}
 use Rattle.schema.specs.declared.Role.{Role}
 use Rattle.schema.specs.declared.Role.TheVariants.{Skip, Number, Text, Bytes as BytesRole, Unsigned, Topic, MessageId}
 use Rattle.schema.specs.declared.Role.TheVariants.{Sub}
-use Rattle.schema.specs.declared.Counted.{Counted}
-use Rattle.schema.specs.declared.Counted.TheVariants as count
-use Rattle.schema.specs.declared.Tested.{Tested}
-use Rattle.schema.specs.declared.Tested.TheVariants as tested
+use Rattle.message.specs.declared.DecodeError.TheVariants as dec
+use Rattle.message.specs.declared.DecodeError.{DecodeError}
 use Rattle.schema.specs.Spots.{spot_in}
 use Rattle.schema.specs.Schema.{role_of, rank, own_of}
 use Rattle.schema.specs.Count.{and_then, text_count, role_count, count_along, counted}
@@ -43,8 +40,6 @@ use Rattle.schema.specs.CountLaws.{count_along_lem, plus-refused}
 use Rattle.schema.specs.Accept.{body_records}
 use Rattle.schema.specs.AcceptLaws.{Gate, large, bad, many, passes, gate, records-taken, records-many, records-large}
 use Rattle.schema.specs.AcceptLaws.{records_wrong}
-use Rattle.message.specs.declared.Decoded.{Decoded}
-use Rattle.message.specs.declared.Decoded.TheVariants.{Records, Refused, Room}
 use Rattle.message.specs.Rows.{rows_of, words_of_all}
 use Rattle.message.specs.RowsLaws.{rows-length, all-length}
 use Rattle.message.specs.Decode.{has_control, on_count, decode_answer, leaves, decode_table}
@@ -78,8 +73,8 @@ pub data Refusal (d : Dialect) (s : List ℕ) : Told → Type 0 where
 
 -- 1 where it is there, and 0 where it is not
 abbrev pub present : {A : Type 0} → Option A → ℕ
-present none = 0
-present (some x) = 1
+present None = 0
+present (Some x) = 1
 
 -- what `decode` tells, lent a table of so many words: a refusal of the body; 12 where the table has too few rows, with
 -- the number of records; else that number, and 1 where the RPC has a control
@@ -96,7 +91,7 @@ unfolding own_of
 own-rpc d = refl
 
 pub counted-records : (d : Dialect) (s : List ℕ) (n : ℕ) (x : Rpc)
-    → counted d.mode (kind.Rpc d.edition) s ≡ count.Records n → IsRpc d s x → n ≡ records_in x
+    → counted d.mode (kind.Rpc d.edition) s ≡ Ok n → IsRpc d s x → n ≡ records_in x
 counted-records d s n x e i =
     let a = rows-length d.mode (kind.Rpc d.edition) 0 s n e in let b = rpc-records i in omega (arith, own-rpc d)
 
@@ -106,7 +101,7 @@ record Counts (d : Dialect) (s : List ℕ) (n : ℕ) : Type 0 where
   means : IsRpc d s rpc
   all : records_in rpc ≡ n
 
-counts : (d : Dialect) (s : List ℕ) (n : ℕ) → Bytes s → counted d.mode (kind.Rpc d.edition) s ≡ count.Records n
+counts : (d : Dialect) (s : List ℕ) (n : ℕ) → Bytes s → counted d.mode (kind.Rpc d.edition) s ≡ Ok n
     → Counts d s n
 counts d s n b e =
     let x = rpc-means d s b (record { records = n; counts = e }) in
@@ -114,13 +109,13 @@ counts d s n b e =
 
 -- and back
 pub meant-count : {d : Dialect} {s : List ℕ} {x : Rpc} → IsRpc d s x
-    → counted d.mode (kind.Rpc d.edition) s ≡ count.Records (records_in x)
+    → counted d.mode (kind.Rpc d.edition) s ≡ Ok (records_in x)
 meant-count {d} {s} {x} i =
     let a = rpc-accepted d s (record { value = x; means = i }) in
-    a.counts ∙ ap count.Records (counted-records d s a.records x a.counts i)
+    a.counts ∙ ap Ok (counted-records d s a.records x a.counts i)
 
 -- decode says that a control is there exactly where the RPC has one
-present-cond : {A : Type 0} (c : Bool) (x : A) → present (cond c (some x) none) ≡ cond c 1 0
+present-cond : {A : Type 0} (c : Bool) (x : A) → present (cond c (Some x) None) ≡ cond c 1 0
 present-cond true x = refl
 present-cond false x = refl
 
@@ -134,7 +129,7 @@ control-told {d} {s} {x} i =
 
 -- ---- a body is refused exactly where the scope refuses it
 -- the gate's refusal
-pub refusal-of : (d : Dialect) (s : List ℕ) (r : Tested) (why : Placed) → Bytes s → Gate d s r → r ≡ tested.Refused why
+pub refusal-of : (d : Dialect) (s : List ℕ) (r : Result ℕ Placed) (why : Placed) → Bytes s → Gate d s r → r ≡ Err why
     → Refusal d s (refusal_told why)
 refusal-of d s _ why b (large h) e =
     let q : nowhere (TooLarge (length s)) ≡ why = cc in
@@ -144,7 +139,7 @@ refusal-of d s _ why b (bad h w q) e =
     let i = (first-exactly d.mode (kind.Rpc d.edition) s w (placed_as (spot_of w) there) b).0 (q, refl) in
     let z : standing there w ≡ why = cc in
     subst (λ (x : Placed). Refusal d s (refusal_told x)) z
-    (subst (λ (x : Spot). Refusal d s (placed x (wire_told w))) (sym i.told) (is_wrong h i.is))
+    (subst (λ (x : Option Spot). Refusal d s (placed x (wire_told w))) (sym i.told) (is_wrong h i.is))
 refusal-of d s _ why b (many h n q l) e =
     let c = counts d s n b q in
     let z : nowhere (TooManyRecords n) ≡ why = cc in
@@ -154,19 +149,19 @@ refusal-of d s _ why b (passes h n q l) e = clash (cc)
 
 -- and back: by which case of the answer it is told
 pub of-refusal : {d : Dialect} {s : List ℕ} {a : Told} → Refusal d s a
-    → (why : Placed) × (body_records d s ≡ tested.Refused why) × (refusal_told why ≡ a)
+    → (why : Placed) × (body_records d s ≡ Err why) × (refusal_told why ≡ a)
 of-refusal {d} {s} (is-large h) = (nowhere (TooLarge (length s)), records-large d s h, refl)
 of-refusal {d} {s} (is_wrong {path} {offset} {why} h i) =
     let c = first-counts (record { path = path; offset = offset; is = i; told = refl }) in (
       standing (spot_in d.mode (kind.Rpc d.edition) s) why,
       records_wrong d s why h c.0,
-      ap (λ (x : Spot). placed x (wire_told why)) c.1,
+      ap (λ (x : Option Spot). placed x (wire_told why)) c.1,
     )
 of-refusal {d} {s} (has-many {x} h i l) =
     (nowhere (TooManyRecords (records_in x)), records-many d s (records_in x) h (meant-count i) l, refl)
 
 -- ---- what decode tells, exactly
-of-gate : (d : Dialect) (s : List ℕ) (words : ℕ) (r : Tested) → Bytes s → Gate d s r
+of-gate : (d : Dialect) (s : List ℕ) (words : ℕ) (r : Result ℕ Placed) → Bytes s → Gate d s r
     → Decodes d s words (decoded_told (on_count (words / 20) (has_control d.mode s) r))
 of-gate d s words _ b (large h) = refuses (is-large h)
 of-gate d s words _ b (bad h why e) =
@@ -183,7 +178,7 @@ of-gate d s words _ b (passes h n e l) =
     (reads w (omega (arith, c.all, ltb-false (words / 20) n u))))))
 
 pub records-within : {d : Dialect} {s : List ℕ} {x : Rpc} → Within d s x
-    → body_records d s ≡ tested.Records (records_in x)
+    → body_records d s ≡ Ok (records_in x)
 records-within {d} {s} {x} w = records-taken d s (records_in x) w.small (meant-count w.means) w.few
 
 told_of_lem : {d : Dialect} {s : List ℕ} {words : ℕ} {a : Told} → Decodes d s words a
@@ -191,12 +186,12 @@ told_of_lem : {d : Dialect} {s : List ℕ} {words : ℕ} {a : Told} → Decodes 
 unfolding decode_answer
 told_of_lem {d} {s} {words} (refuses r) =
     let g = of-refusal r in
-    ap (λ (c : Tested). decoded_told (on_count (words / 20) (has_control d.mode s) c)) g.1 ∙ g.2
+    ap (λ (c : Result ℕ Placed). decoded_told (on_count (words / 20) (has_control d.mode s) c)) g.1 ∙ g.2
 told_of_lem {d} {s} {words} (short {x} w l) =
-    ap (λ (c : Tested). decoded_told (on_count (words / 20) (has_control d.mode s) c)) (records-within w)
+    ap (λ (c : Result ℕ Placed). decoded_told (on_count (words / 20) (has_control d.mode s) c)) (records-within w)
     ∙ simp (lt-ltb (words / 20) (records_in x) l)
 told_of_lem {d} {s} {words} (reads {x} w l) =
-    ap (λ (c : Tested). decoded_told (on_count (words / 20) (has_control d.mode s) c)) (records-within w)
+    ap (λ (c : Result ℕ Placed). decoded_told (on_count (words / 20) (has_control d.mode s) c)) (records-within w)
     ∙ simp (le-ltb (words / 20) (records_in x) l) (ap (λ (k : ℕ). done (records_in x ∷ k ∷ [])) (control-told w.means))
 
 decodes : (d : Dialect) (s : List ℕ) (words : ℕ) → Bytes s → Decodes d s words (decoded_told (decode_answer d s words))
@@ -212,7 +207,7 @@ field-body : {mode : Mode} {n : ℕ} → OfField mode n → OfBody mode n
 field-body (field-low {n = n} l) = low {n = n} (omega arith)
 field-body (field-group l u) = of-group l u
 
-text-early : (mode : Mode) (s : List ℕ) (f : Field) (n : ℕ) (why : WireError) → text_count s f n ≡ count.Refused why
+text-early : (mode : Mode) (s : List ℕ) (f : Field) (n : ℕ) (why : WireError) → text_count s f n ≡ Err why
     → OfBody mode (refusal_number why)
 unfolding text_count
 text-early mode s f n why h =
@@ -220,8 +215,8 @@ text-early mode s f n why h =
     (λ t. let e = simp t at h in let w : why ≡ InvalidUtf8 f.tag_end = cc in rw w (low {n = 7} (omega arith)))
 
 role_early : (mode : Mode) (s : List ℕ) (f : Field) (r : Role) (why : WireError)
-    → role_count (counted mode) s f r ≡ count.Refused why
-    → ((j : Kind) (form : Form) (p : List ℕ) → r ≡ Sub j form → counted mode j p ≡ count.Refused why
+    → role_count (counted mode) s f r ≡ Err why
+    → ((j : Kind) (form : Form) (p : List ℕ) → r ≡ Sub j form → counted mode j p ≡ Err why
     → OfBody mode (refusal_number why))
     → OfBody mode (refusal_number why)
 role_early mode s f Skip why h ih = clash (cc)
@@ -241,22 +236,22 @@ data Ending (mode : Mode) : Fields → Type 0 where
   early : {why : WireError} → OfField mode (refusal_number why) → Ending mode (refused why)
   after : {f : Field} {w : Fields} → Ending mode w → Ending mode (f then w)
 
-first-early : (mode : Mode) (s : List ℕ) (k : Kind) (f : Field) (w : Fields) (why : WireError) (r : Counted)
+first-early : (mode : Mode) (s : List ℕ) (k : Kind) (f : Field) (w : Fields) (why : WireError) (r : Result ℕ WireError)
     → role_count (counted mode) s f (role_of k f.field f.wire_type) ≡ r
-    → and_then r (count_along (counted mode) k s w) ≡ count.Refused why
-    → (count_along (counted mode) k s w ≡ count.Refused why → OfBody mode (refusal_number why))
-    → ((j : Kind) (p : List ℕ) → rank j < rank k → counted mode j p ≡ count.Refused why
+    → and_then r (count_along (counted mode) k s w) ≡ Err why
+    → (count_along (counted mode) k s w ≡ Err why → OfBody mode (refusal_number why))
+    → ((j : Kind) (p : List ℕ) → rank j < rank k → counted mode j p ≡ Err why
     → OfBody mode (refusal_number why))
     → OfBody mode (refusal_number why)
-first-early mode s k f w why (count.Records n) q g rest ih = rest (plus-refused n (count_along (counted mode) k s w) why g)
-first-early mode s k f w why (count.Refused v) q g rest ih =
+first-early mode s k f w why (Ok n) q g rest ih = rest (plus-refused n (count_along (counted mode) k s w) why g)
+first-early mode s k f w why (Err v) q g rest ih =
     let e : v ≡ why = cc in
-    role_early mode s f (role_of k f.field f.wire_type) why (q ∙ ap count.Refused e)
+    role_early mode s f (role_of k f.field f.wire_type) why (q ∙ ap Err e)
     (λ j form p u z. ih j p (sub-rank k j form f.field f.wire_type u) z)
 
 then-early : (mode : Mode) (s : List ℕ) (k : Kind) (w : Fields) (why : WireError) → Ending mode w
-    → count_along (counted mode) k s w ≡ count.Refused why
-    → ((j : Kind) (p : List ℕ) → rank j < rank k → counted mode j p ≡ count.Refused why
+    → count_along (counted mode) k s w ≡ Err why
+    → ((j : Kind) (p : List ℕ) → rank j < rank k → counted mode j p ≡ Err why
     → OfBody mode (refusal_number why))
     → OfBody mode (refusal_number why)
 then-early mode s k _ why at-end h ih = clash (cc)
@@ -270,16 +265,16 @@ ending mode s = along mode s (λ (at : ℕ) (w : Fields). Ending mode w) (λ at.
     (λ at why e. early (field-early mode s at why e))
     (λ at f st e r. after r) 0
 
-early-all : (mode : Mode) (k : Kind) (s : List ℕ) (why : WireError) → counted mode k s ≡ count.Refused why
+early-all : (mode : Mode) (k : Kind) (s : List ℕ) (why : WireError) → counted mode k s ≡ Err why
     → OfBody mode (refusal_number why)
 early-all mode =
-    by_rank (λ k. (s : List ℕ) (why : WireError) → counted mode k s ≡ count.Refused why
+    by_rank (λ k. (s : List ℕ) (why : WireError) → counted mode k s ≡ Err why
     → OfBody mode (refusal_number why))
     (λ k ih s why h. then-early mode s k (fields_of mode s) why (ending mode s) (sym (count_along_lem mode k s) ∙ h)
     (λ j p q z. ih j q p why z))
 
 pub counted-early : (d : Dialect) (s : List ℕ) (why : WireError)
-    → counted d.mode (kind.Rpc d.edition) s ≡ count.Refused why → OfBody d.mode (refusal_number why)
+    → counted d.mode (kind.Rpc d.edition) s ≡ Err why → OfBody d.mode (refusal_number why)
 counted-early d s why h = early-all d.mode (kind.Rpc d.edition) s why h
 
 -- 10 to 12 are none of them
@@ -365,30 +360,29 @@ accepted-number d s words b = (
 
 -- ---- the table then says the RPC
 -- what the numbers say of the answer
-told-records : (r : Decoded) (n c : ℕ) → decoded_told r ≡ done (n ∷ c ∷ []) → (b : Bool) × (r ≡ Records n b)
+told-records : (r : Result (ℕ × Bool) DecodeError) (n c : ℕ) → decoded_told r ≡ done (n ∷ c ∷ []) → (b : Bool) × (r ≡ Ok (n, b))
     × (cond b 1 0 ≡ c)
-told-records (Records m b) n c e = (
+told-records (Ok (m, b)) n c e = (
   b,
-  ap (λ (k : ℕ). Records k b) (ap (λ (t : Told). t.first) e),
+  ap (λ (k : ℕ). Ok (k, b)) (ap (λ (t : Told). t.first) e),
   ap (λ (t : Told). t.second) e,
 )
-told-records (Refused r) n c e = let z = (wire_range r.why).0 in
+told-records (Err (dec.Refused r)) n c e = let z = (wire_range r.why).0 in
     absurd (omega (arith, ap (λ (t : Told). t.number) e))
-told-records (Room m) n c e = absurd (omega (arith, ap (λ (t : Told). t.number) e))
+told-records (Err (dec.Room m)) n c e = absurd (omega (arith, ap (λ (t : Told). t.number) e))
 
-gate-reads : (d : Dialect) (s : List ℕ) (room : ℕ) (r : Tested) (n : ℕ) (b : Bool) → Gate d s r
-    → on_count room (has_control d.mode s) r ≡ Records n b
-    → (counted d.mode (kind.Rpc d.edition) s ≡ count.Records n) × (n ≤ room) × (b ≡ has_control d.mode s)
+gate-reads : (d : Dialect) (s : List ℕ) (room : ℕ) (r : Result ℕ Placed) (n : ℕ) (b : Bool) → Gate d s r
+    → on_count room (has_control d.mode s) r ≡ Ok (n, b)
+    → (counted d.mode (kind.Rpc d.edition) s ≡ Ok n) × (n ≤ room) × (b ≡ has_control d.mode s)
 gate-reads d s room _ n b (large h) e = clash (cc)
 gate-reads d s room _ n b (bad h why q) e = clash (cc)
 gate-reads d s room _ n b (many h m q l) e = clash (cc)
 gate-reads d s room _ n b (passes h m q l) e =
     either (ltb room m) (λ u. clash (let z = simp u at e in cc))
-    (λ u. let z = simp u at e in let y : m ≡ n = cc in
-    (q ∙ ap count.Records y, omega (arith, ltb-false room m u), cc))
+    (λ u. let z = of-ok-two (simp u at e) in (q ∙ ap Ok z.0, omega (arith, ltb-false room m u, z.0), sym z.1))
 
-answer-reads : (d : Dialect) (s : List ℕ) (words n : ℕ) (b : Bool) → decode_answer d s words ≡ Records n b
-    → (counted d.mode (kind.Rpc d.edition) s ≡ count.Records n) × (n ≤ words / 20) × (b ≡ has_control d.mode s)
+answer-reads : (d : Dialect) (s : List ℕ) (words n : ℕ) (b : Bool) → decode_answer d s words ≡ Ok (n, b)
+    → (counted d.mode (kind.Rpc d.edition) s ≡ Ok n) × (n ≤ words / 20) × (b ≡ has_control d.mode s)
 unfolding decode_answer
 answer-reads d s words n b e = gate-reads d s (words / 20) (body_records d s) n b (gate d s) e
 
@@ -408,7 +402,7 @@ table-means d s t n c x e i =
     rows-length d.mode (kind.Rpc d.edition) 0 s n g.0 ∙ omega (arith, own-rpc d) in
     let room : length (rows_of d.mode (kind.Rpc d.edition) 0 s) * 20 ≤ length t = omega (arith, g.1) in
     let rows : rows_in (leaves d s t (decode_answer d s (length t))) 0 n ≡ rows_of d.mode (kind.Rpc d.edition) 0 s =
-    ap (λ (r : Decoded). rows_in (leaves d s t r) 0 n) k.1
+    ap (λ (r : Result (ℕ × Bool) DecodeError). rows_in (leaves d s t r) 0 n) k.1
     ∙ ap (rows_in (sets t 0 (words_of_all (rows_of d.mode (kind.Rpc d.edition) 0 s))) 0) (sym l)
     ∙ table-back t (rows_of d.mode (kind.Rpc d.edition) 0 s)
     (all-records d.mode (kind.Rpc d.edition) 0 s) room in
@@ -436,7 +430,7 @@ table-rest d s t n c e =
 
 -- ---- refusals; that one leaves the table as it was is `refused_decode` of message
 -- 10 is given exactly to a body above 65,536 bytes, with its length
-large-gate : (d : Dialect) (s : List ℕ) (room n : ℕ) (r : Tested) → Gate d s r
+large-gate : (d : Dialect) (s : List ℕ) (room n : ℕ) (r : Result ℕ Placed) → Gate d s r
     → decoded_told (on_count room (has_control d.mode s) r) ≡ told too_large (n ∷ []) → (n ≡ length s)
     × (65536 < length s)
 large-gate d s room n _ (large h) e = (sym (ap (λ (t : Told). t.first) e), h)
@@ -489,8 +483,8 @@ wrong_exactly d s words b = (λ p. forth (decodes d s words b) p.0 p.1, λ w. ba
 
 -- and by this reason, at this place, exactly where its first refusal in reading order has them: the test of a body that
 -- every call makes
-place_of : (d : Dialect) (s : List ℕ) (why : WireError) (spot : Spot) (r : Tested) → Bytes s → length s ≤ 65536
-    → OfBody d.mode (refusal_number why) → Gate d s r → r ≡ tested.Refused (record { why = why; spot = spot })
+place_of : (d : Dialect) (s : List ℕ) (why : WireError) (spot : Option Spot) (r : Result ℕ Placed) → Bytes s → length s ≤ 65536
+    → OfBody d.mode (refusal_number why) → Gate d s r → r ≡ Err (record { why = why; spot = spot })
     → First d.mode (kind.Rpc d.edition) s why spot
 place_of d s why spot _ b h n (large l) e = absurd (omega arith)
 place_of d s why spot _ b h n (bad l w q) e =
@@ -499,20 +493,20 @@ place_of d s why spot _ b h n (bad l w q) e =
     let z : w ≡ why = ap (λ (r : Placed). r.why) x in
     let y : placed_as (spot_of w) there ≡ spot = ap (λ (r : Placed). r.spot) x in
     (first-exactly d.mode (kind.Rpc d.edition) s why spot b).0
-    (q ∙ ap count.Refused z, ap (λ (a : WireError). placed_as (spot_of a) there) (sym z) ∙ y)
+    (q ∙ ap Err z, ap (λ (a : WireError). placed_as (spot_of a) there) (sym z) ∙ y)
 place_of d s why spot _ b h n (many l m q g) e =
     let x : nowhere (TooManyRecords m) ≡ record { why = why; spot = spot } = cc in
     let z : TooManyRecords m ≡ why = ap (λ (r : Placed). r.why) x in
     absurd ((body-bound n).1 (ap refusal_number (sym z)))
 place_of d s why spot _ b h n (passes l m q g) e = clash (cc)
 
-pub place-exactly : (d : Dialect) (s : List ℕ) (why : WireError) (spot : Spot) → Bytes s → length s ≤ 65536
-    → ((body_records d s ≡ tested.Refused (record { why = why; spot = spot })) × OfBody d.mode (refusal_number why))
+pub place-exactly : (d : Dialect) (s : List ℕ) (why : WireError) (spot : Option Spot) → Bytes s → length s ≤ 65536
+    → ((body_records d s ≡ Err (record { why = why; spot = spot })) × OfBody d.mode (refusal_number why))
     ↔ First d.mode (kind.Rpc d.edition) s why spot
 place-exactly d s why spot b h = (
   λ p. place_of d s why spot (body_records d s) b h p.1 (gate d s) p.0,
   λ i. let c = first-counts i in (
-    records_wrong d s why h c.0 ∙ ap (λ (x : Spot). tested.Refused (record { why = why; spot = x })) c.1,
+    records_wrong d s why h c.0 ∙ ap (λ (x : Option Spot). Err (record { why = why; spot = x })) c.1,
     refused-early i.is,
   ),
 )

@@ -3,9 +3,8 @@
 -- `decode` leaves. And what 1.2 takes 1.1 takes, too: there it means the same RPC without IDONTWANTs. A message's own
 -- reading is the same in each, since it has no edition to depend on: neither its kind, nor `message_at`, `id_parts` and
 -- `sign_of`, take one.
-use Rattle.std.specs.Prelude.{ℕ, ◌+◌, ◌/◌, ◌≤◌, ◌≡◌, refl, Bool, true, false, cond, ◌&&◌, ◌||◌, List, [], ◌∷◌, ◌++◌, map, length, eqb}
+use Rattle.std.specs.Prelude.{Option, Some, None, Result, Ok, Err, ℕ, ◌+◌, ◌/◌, ◌≤◌, ◌≡◌, refl, Bool, true, false, cond, ◌&&◌, ◌||◌, List, [], ◌∷◌, ◌++◌, map, length, eqb}
 use Rattle.std.proofs.Common.{sym, ap, ap₂, subst, ◌∙◌, arith, eqb-true}
-use Rattle.std.proofs.Math.Option.{Option, none, some}
 use Rattle.std.proofs.lemmas.List.Edits.{sets}
 use Rattle.basis.specs.declared.Mode.{Mode}
 use Rattle.basis.specs.declared.Edition.{Edition}
@@ -16,15 +15,12 @@ use Rattle.basis.specs.Spot.{inside, or_else}
 use Rattle.basis.specs.Cases.{either, both, neither}
 use Rattle.protobuf.specs.declared.Field.{Field}
 use Rattle.protobuf.specs.declared.WireError.{WireError}
-use Rattle.protobuf.specs.declared.Checked.TheVariants.{Fine}
 use Rattle.protobuf.specs.Walk.{Fields, end, refused, ◌then◌, fields_of, is_bytes, value_in}
 use Rattle.schema.specs.declared.Kind.{Kind}
 use Rattle.schema.specs.declared.Kind.TheVariants as kind
 use Rattle.schema.specs.declared.Form.TheVariants.{Anew, Merged}
 use Rattle.schema.specs.declared.Role.{Role}
 use Rattle.schema.specs.declared.Role.TheVariants.{Skip, Sub}
-use Rattle.schema.specs.declared.Counted.{Counted}
-use Rattle.schema.specs.declared.Counted.TheVariants.{Records, Refused}
 use Rattle.schema.specs.Schema.{added_in, table, row_from, row_of, is_varint, role_of, own_of}
 use Rattle.schema.specs.SchemaLaws.{Rows, each_row_lem}
 use Rattle.schema.specs.Slots.{has_along, has_field}
@@ -35,8 +31,8 @@ use Rattle.schema.specs.SpotsLaws.{spot_along_lem}
 use Rattle.schema.specs.Accept.{few, body_records, checked, accept_of}
 use Rattle.schema.specs.AcceptLaws.{is-taken, taken_fine}
 use Rattle.message.specs.declared.Record.{Record}
-use Rattle.message.specs.declared.Decoded.{Decoded}
-use Rattle.message.specs.declared.Decoded.TheVariants as decoded
+use Rattle.message.specs.declared.DecodeError.TheVariants as dec
+use Rattle.message.specs.declared.DecodeError.{DecodeError}
 use Rattle.message.specs.Rows.{role_rows, rows_along, own_rows, rows_of, words_of_all}
 use Rattle.message.specs.RowsLaws.{rows_along_lem}
 use Rattle.message.specs.Decode.{has_control, on_count, decode_answer, leaves, decode_table}
@@ -154,7 +150,7 @@ same-counted mode d e s h =
     ∙ same-rpc mode (λ k w. count_along (counted mode) k s w) (λ f r x. and_then (role_count (counted mode) s f r) x)
     (λ k f w. refl)
     (λ j k. refl) (λ j k why. refl) d e s
-    (λ f x t. ap (λ (c : Counted). and_then (plus 0 c) x) (control-counted mode d e (value_in s f) t)) (fields_of mode s) h
+    (λ f x t. ap (λ (c : Result ℕ WireError). and_then (plus 0 c) x) (control-counted mode d e (value_in s f) t)) (fields_of mode s) h
     ∙ sym (count_along_lem mode (kind.Rpc e) s)
 
 control-spot : (mode : Mode) (d e : Edition) (p : List ℕ) → has_field mode 5 p ≡ false
@@ -175,7 +171,7 @@ same_spot mode d e s h =
     ∙ same-rpc mode (λ k w. spot_along (spot_in mode) k s w) (λ f r x. or_else (role_spot (spot_in mode) s f r) x)
     (λ k f w. refl)
     (λ j k. refl) (λ j k why. refl) d e s
-    (λ f x t. ap (λ (c : Spot). or_else (inside f.field f.start c) x) (control-spot mode d e (value_in s f) t))
+    (λ f x t. ap (λ (c : Option Spot). or_else (inside f.field f.start c) x) (control-spot mode d e (value_in s f) t))
     (fields_of mode s) h
     ∙ sym (spot_along_lem mode (kind.Rpc e) s)
 
@@ -217,12 +213,12 @@ pub same_answer : (mode : Mode) (d e : Edition) (s : List ℕ) (words : ℕ) →
 unfolding decode_answer
 same_answer mode d e s words h = ap (on_count (words / 20) (has_control mode s)) (same-records mode d e s h)
 
-same-leaves : (mode : Mode) (d e : Edition) (s t : List ℕ) (r : Decoded) → declines mode s ≡ false
+same-leaves : (mode : Mode) (d e : Edition) (s t : List ℕ) (r : Result (ℕ × Bool) DecodeError) → declines mode s ≡ false
     → leaves (spoken mode d) s t r ≡ leaves (spoken mode e) s t r
-same-leaves mode d e s t (decoded.Records n c) h = ap (λ (rs : List Record). sets t 0 (words_of_all rs))
+same-leaves mode d e s t (Ok (n, c)) h = ap (λ (rs : List Record). sets t 0 (words_of_all rs))
     (same_rows mode d e 0 s h)
-same-leaves mode d e s t (decoded.Refused r) h = refl
-same-leaves mode d e s t (decoded.Room n) h = refl
+same-leaves mode d e s t (Err (dec.Refused r)) h = refl
+same-leaves mode d e s t (Err (dec.Room n)) h = refl
 
 pub same-table : (mode : Mode) (d e : Edition) (s t : List ℕ) → declines mode s ≡ false
     → decode_table (spoken mode d) s t ≡ decode_table (spoken mode e) s t
@@ -236,8 +232,8 @@ abbrev pub older_control : ControlMessage → ControlMessage
 older_control c = record { ihave = c.ihave; iwant = c.iwant; graft = c.graft; prune = c.prune; idontwant = [] }
 
 abbrev pub older_in : Option ControlMessage → Option ControlMessage
-older_in none = none
-older_in (some c) = some (older_control c)
+older_in None = None
+older_in (Some c) = Some (older_control c)
 
 abbrev pub older_rpc : Rpc → Rpc
 older_rpc x = record { subscriptions = x.subscriptions; publish = x.publish; control = older_in x.control }
@@ -253,8 +249,8 @@ older-controls (p paired ps) = older_control_lem p paired older-controls ps
 
 older-join : (c : ControlMessage) (o : Option ControlMessage)
     → join_to (older_control c) (older_in o) ≡ older_in (join_to c o)
-older-join c none = refl
-older-join c (some b) = refl
+older-join c None = refl
+older-join c (Some b) = refl
 
 older-joined : (cs : List ControlMessage) → joined (map older_control cs) ≡ older_in (joined cs)
 older-joined [] = refl
@@ -269,8 +265,8 @@ older {mode} (is-rpc {s = s} {ss = ss} {ms = ms} {cs = cs} g h1 h2 h3) =
 
 -- with no more records
 older-size : (o : Option ControlMessage) → some_records (older_in o) ≤ some_records o
-older-size none = omega arith
-older-size (some c) = omega arith
+older-size None = omega arith
+older-size (Some c) = omega arith
 
 pub older-records : (x : Rpc) → records_in (older_rpc x) ≤ records_in x
 unfolding records_in
@@ -282,27 +278,27 @@ older-within {x = x} w =
     record { means = older w.means; small = w.small; few = omega (arith, w.few, older-records x) }
 
 -- and of the test that the calls make, whatever the bytes are
-abbrev NoMore : Counted → Counted → Type 0
-NoMore (Records n) b = (m : ℕ) × (b ≡ Records m) × (m ≤ n)
-NoMore (Refused why) b = Unit {0}
+abbrev NoMore : Result ℕ WireError → Result ℕ WireError → Type 0
+NoMore (Ok n) b = (m : ℕ) × (b ≡ Ok m) × (m ≤ n)
+NoMore (Err why) b = Unit {0}
 
-no_more-none : (a : Counted) → NoMore a (Records 0)
-no_more-none (Records n) = (0, refl, omega arith)
-no_more-none (Refused why) = tt
+no_more-none : (a : Result ℕ WireError) → NoMore a (Ok 0)
+no_more-none (Ok n) = (0, refl, omega arith)
+no_more-none (Err why) = tt
 
-no_more-same : (a : Counted) → NoMore a a
-no_more-same (Records n) = (n, refl, omega arith)
-no_more-same (Refused why) = tt
+no_more-same : (a : Result ℕ WireError) → NoMore a a
+no_more-same (Ok n) = (n, refl, omega arith)
+no_more-same (Err why) = tt
 
-no_more-then : (a b x y : Counted) → NoMore a b → NoMore x y → NoMore (and_then a x) (and_then b y)
-no_more-then (Refused why) b x y p q = tt
-no_more-then (Records n) b (Refused why) y p q = tt
-no_more-then (Records n) b (Records k) y p q =
+no_more-then : (a b x y : Result ℕ WireError) → NoMore a b → NoMore x y → NoMore (and_then a x) (and_then b y)
+no_more-then (Err why) b x y p q = tt
+no_more-then (Ok n) b (Err why) y p q = tt
+no_more-then (Ok n) b (Ok k) y p q =
     (p.0 + q.0, ap₂ and_then p.1 q.1, omega (arith, p.2, q.2))
 
-no_more-plus : (n : ℕ) (a b : Counted) → NoMore a b → NoMore (plus n a) (plus n b)
-no_more-plus n (Records k) b p = (n + p.0, ap (plus n) p.1, omega (arith, p.2))
-no_more-plus n (Refused why) b p = tt
+no_more-plus : (n : ℕ) (a b : Result ℕ WireError) → NoMore a b → NoMore (plus n a) (plus n b)
+no_more-plus n (Ok k) b p = (n + p.0, ap (plus n) p.1, omega (arith, p.2))
+no_more-plus n (Err why) b p = tt
 
 -- along the fields of two kinds, field by field
 no_more-along : (mode : Mode) (j k : Kind) (s : List ℕ)
@@ -321,7 +317,7 @@ no_more-counted : (mode : Mode) (j k : Kind) (s : List ℕ)
     → NoMore (counted mode j s) (counted mode k s)
 no_more-counted mode j k s h =
     subst (NoMore (counted mode j s)) (sym (count_along_lem mode k s))
-    (subst (λ (c : Counted). NoMore c (count_along (counted mode) k s (fields_of mode s))) (sym (count_along_lem mode j s))
+    (subst (λ (c : Result ℕ WireError). NoMore c (count_along (counted mode) k s (fields_of mode s))) (sym (count_along_lem mode j s))
     (no_more-along mode j k s h (fields_of mode s)))
 
 added_five : (f : Field) → is_bytes 5 f ≡ true → role_of (kind.ControlMessage V11) f.field f.wire_type ≡ Skip
@@ -357,11 +353,11 @@ older-part mode s f =
     (λ t. subst (λ (r : Role). NoMore newer (role_count (counted mode) s f r))
     (rpc_role V12 V11 f.field f.wire_type t) (no_more-same newer))
 
-pub older_accept : (mode : Mode) (s : List ℕ) → accept_of (spoken mode V12) s ≡ Fine
-    → accept_of (spoken mode V11) s ≡ Fine
+pub older_accept : (mode : Mode) (s : List ℕ) → accept_of (spoken mode V12) s ≡ Ok tt
+    → accept_of (spoken mode V11) s ≡ Ok tt
 older_accept mode s h =
     let t = is-taken (spoken mode V12) s h in
-    let m = subst (λ (c : Counted). NoMore c (counted mode (kind.Rpc V11) s)) t.counts
+    let m = subst (λ (c : Result ℕ WireError). NoMore c (counted mode (kind.Rpc V11) s)) t.counts
     (no_more-counted mode (kind.Rpc V12) (kind.Rpc V11) s (older-part mode s)) in
     taken_fine (spoken mode V11) s
     (record { records = m.0; counts = m.1; few = omega (arith, m.2, t.few); small = t.small })

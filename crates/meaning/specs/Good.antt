@@ -1,6 +1,6 @@
 -- A message of any kind is accepted exactly where its body is well formed and the bytes of each of its fields are good:
 -- text is UTF-8, and a submessage is accepted.
-use Rattle.std.specs.Prelude.{ℕ, ◌+◌, ◌≡◌, refl, Bool, true, false, cond, List, [], ◌∷◌, eqb}
+use Rattle.std.specs.Prelude.{Ok, ℕ, ◌+◌, ◌≡◌, refl, Bool, true, false, cond, List, [], ◌∷◌, eqb}
 use Rattle.std.proofs.Common.{sym, ap, ap₂, subst, ◌∙◌, eqb-true, eq-eqb}
 use Rattle.basis.specs.declared.Mode.{Mode}
 use Rattle.basis.specs.Cases.{either, clash, both}
@@ -13,7 +13,6 @@ use Rattle.protobuf.specs.Walk.{Fields, end, refused, ◌then◌, fields_of, who
 use Rattle.schema.specs.declared.Kind.{Kind}
 use Rattle.schema.specs.declared.Role.{Role}
 use Rattle.schema.specs.declared.Role.TheVariants.{Skip, Number, Text, Bytes, Unsigned, Topic, MessageId, Sub}
-use Rattle.schema.specs.declared.Counted.TheVariants.{Records}
 use Rattle.schema.specs.Schema.{is_varint, row_of, role_of, own_of}
 use Rattle.schema.specs.Count.{plus, and_then, text_count, role_count, count_along, counted}
 use Rattle.schema.specs.CountLaws.{plus-fits, then-fits, count_along_lem}
@@ -24,7 +23,7 @@ use Rattle.meaning.specs.Entries.{put_bytes_lem}
 -- a message of kind k with the bytes p is accepted
 pub record Accepted (mode : Mode) (k : Kind) (p : List ℕ) : Type 0 where
   pub records : ℕ
-  pub counts : counted mode k p ≡ Records records
+  pub counts : counted mode k p ≡ Ok records
 
 -- the bytes of a length-delimited field are good for its role
 abbrev pub GoodRole : Mode → Role → List ℕ → Type 0
@@ -45,16 +44,16 @@ Good mode k es = (m : ℕ) → Each (GoodRole mode (role_of k m 2)) (bytes_in m 
 abbrev RoleAt : Kind → Field → Role
 RoleAt k f = role_of k f.field f.wire_type
 
-text-good : (s : List ℕ) (f : Field) (n m : ℕ) → text_count s f n ≡ Records m → Utf8 (value_in s f)
+text-good : (s : List ℕ) (f : Field) (n m : ℕ) → text_count s f n ≡ Ok m → Utf8 (value_in s f)
 unfolding text_count
 text-good s f n m h =
     either (is_utf8 (value_in s f)) (λ t. (exactly (value_in s f)).0 t) (λ t. clash (let e = simp t at h in cc))
 
-good-text : (s : List ℕ) (f : Field) (n : ℕ) → Utf8 (value_in s f) → text_count s f n ≡ Records n
+good-text : (s : List ℕ) (f : Field) (n : ℕ) → Utf8 (value_in s f) → text_count s f n ≡ Ok n
 unfolding text_count
 good-text s f n u = let t : is_utf8 (value_in s f) ≡ true = (exactly (value_in s f)).1 u in simp t
 
-pub counts-good : (mode : Mode) (s : List ℕ) (f : Field) (r : Role) (m : ℕ) → role_count (counted mode) s f r ≡ Records m
+pub counts-good : (mode : Mode) (s : List ℕ) (f : Field) (r : Role) (m : ℕ) → role_count (counted mode) s f r ≡ Ok m
     → GoodRole mode r (value_in s f)
 counts-good mode s f Skip m h = tt
 counts-good mode s f (Number figure) m h = tt
@@ -67,7 +66,7 @@ counts-good mode s f (Sub j form) m h = let t = plus-fits (own_of j) m (counted 
     record { records = t.0; counts = t.1 }
 
 pub good-counts : (mode : Mode) (s : List ℕ) (f : Field) (r : Role) → GoodRole mode r (value_in s f) → (m : ℕ)
-    × (role_count (counted mode) s f r ≡ Records m)
+    × (role_count (counted mode) s f r ≡ Ok m)
 good-counts mode s f Skip g = (0, refl)
 good-counts mode s f (Number figure) g = (0, refl)
 good-counts mode s f (Text slot) g = (0, good-text s f 0 g)
@@ -79,7 +78,7 @@ good-counts mode s f (Sub j form) g = (own_of j + g.records, ap (plus (own_of j)
 
 -- a field that is not length-delimited is passed over or a number
 number_counts : (mode : Mode) (s : List ℕ) (f : Field) (r : Role)
-    → role_count (counted mode) s f (cond (is_varint r) r Skip) ≡ Records 0
+    → role_count (counted mode) s f (cond (is_varint r) r Skip) ≡ Ok 0
 number_counts mode s f Skip = refl
 number_counts mode s f (Number figure) = refl
 number_counts mode s f (Text slot) = refl
@@ -90,7 +89,7 @@ number_counts mode s f MessageId = refl
 number_counts mode s f (Sub k form) = refl
 
 pub other_counts : (mode : Mode) (k : Kind) (s : List ℕ) (f : Field) → eqb f.wire_type 2 ≡ false → (m : ℕ)
-    × (role_count (counted mode) s f (RoleAt k f) ≡ Records m)
+    × (role_count (counted mode) s f (RoleAt k f) ≡ Ok m)
 unfolding role_of
 other_counts mode k s f t2 =
     either (eqb f.wire_type 0) (λ t0. (0, simp (t2, t0) (number_counts mode s f (row_of k f.field))))
@@ -107,7 +106,7 @@ is_bytes_lem m f h = let t = both (eqb f.wire_type 2) (eqb f.field m) h in
     (eqb-true _ _ t.0, eqb-true _ _ t.1)
 
 along-good : (mode : Mode) (k : Kind) (s : List ℕ) (fs : List Field) (n : ℕ)
-    → count_along (counted mode) k s (whole fs) ≡ Records n → Good mode k (entries_of s fs)
+    → count_along (counted mode) k s (whole fs) ≡ Ok n → Good mode k (entries_of s fs)
 along-good mode k s [] n h m = none_left
 along-good mode k s (f ∷ fs) n h m =
     let t = then-fits (role_count (counted mode) s f (RoleAt k f)) (count_along (counted mode) k s (whole fs)) n h in
@@ -143,13 +142,13 @@ good-first mode k s f fs g t2 =
     (each-head (GoodRole mode (role_of k m 2)) (value_in s f) (bytes_in m (entries_of s fs)) (simp b at h)).0
 
 field-counts : (mode : Mode) (k : Kind) (s : List ℕ) (f : Field) (fs : List Field) → Good mode k (entries_of s (f ∷ fs))
-    → (m : ℕ) × (role_count (counted mode) s f (RoleAt k f) ≡ Records m)
+    → (m : ℕ) × (role_count (counted mode) s f (RoleAt k f) ≡ Ok m)
 field-counts mode k s f fs g =
     either (eqb f.wire_type 2) (λ t2. good-counts mode s f (RoleAt k f) (good-first mode k s f fs g t2))
     (λ t2. other_counts mode k s f t2)
 
 good-along : (mode : Mode) (k : Kind) (s : List ℕ) (fs : List Field) → Good mode k (entries_of s fs) → (n : ℕ)
-    × (count_along (counted mode) k s (whole fs) ≡ Records n)
+    × (count_along (counted mode) k s (whole fs) ≡ Ok n)
 good-along mode k s [] g = (0, refl)
 good-along mode k s (f ∷ fs) g =
     let a = field-counts mode k s f fs g in
@@ -168,7 +167,7 @@ good-walked mode k s fs w g = let a = good-along mode k s fs g in
     record { records = a.0; counts = count_along_lem mode k s ∙ ap (count_along (counted mode) k s) w ∙ a.1 }
 
 -- what is accepted has a walk that reaches the end
-ends : (mode : Mode) (k : Kind) (s : List ℕ) (w : Fields) (n : ℕ) → count_along (counted mode) k s w ≡ Records n
+ends : (mode : Mode) (k : Kind) (s : List ℕ) (w : Fields) (n : ℕ) → count_along (counted mode) k s w ≡ Ok n
     → (fs : List Field) × (w ≡ whole fs)
 ends mode k s end n h = ([], refl)
 ends mode k s (refused why) n h = clash (cc)

@@ -1,13 +1,10 @@
 -- The slots of a message hold the last of each singular field.
-use Rattle.std.specs.Prelude.{ℕ, ◌+◌, ◌-◌, ◌≤◌, ◌≡◌, refl, Bool, false, cond, List, [], ◌∷◌, length, take, drop, eqb}
+use Rattle.std.specs.Prelude.{Option, Result, Ok, Err, Some, None, ℕ, ◌+◌, ◌-◌, ◌≤◌, ◌≡◌, refl, Bool, false, cond, List, [], ◌∷◌, length, take, drop, eqb}
 use Rattle.std.proofs.Common.{sym, ap, subst, ◌∙◌, arith, length-drop, drop-drop, take-take, length-take-le, eqb-true}
-use Rattle.std.proofs.Math.Option.{Option, none, some}
 use Rattle.basis.specs.declared.Mode.{Mode}
 use Rattle.basis.specs.Cases.{either, clash}
 use Rattle.basis.specs.Lists.{drop-take}
 use Rattle.protobuf.specs.declared.Field.{Field}
-use Rattle.protobuf.specs.declared.Step.{Step}
-use Rattle.protobuf.specs.declared.Step.TheVariants as step
 use Rattle.protobuf.specs.Field.{read_field}
 use Rattle.protobuf.specs.Laws.{field-stands}
 use Rattle.protobuf.specs.Walk.{on_step, walk_at, whole, between, entries_of}
@@ -20,6 +17,7 @@ use Rattle.schema.specs.declared.Slots.{Slots}
 use Rattle.schema.specs.declared.Role.{Role}
 use Rattle.schema.specs.declared.Role.TheVariants.{Skip, Number as NumberRole, Text, Bytes, Unsigned, Topic, MessageId}
 use Rattle.schema.specs.declared.Role.TheVariants.{Sub}
+use Rattle.protobuf.specs.declared.WireError.{WireError}
 use Rattle.schema.specs.Schema.{is_varint, row_of, len_role, role_of}
 use Rattle.schema.specs.Count.{FieldWithin}
 use Rattle.schema.specs.Slots.{set_number, place_of, role_slots, with_field, slots_along}
@@ -34,14 +32,14 @@ pub record Part (b : List ℕ) (base : ℕ) (p : List ℕ) : Type 0 where
   pub here : p ≡ between b base (base + length p)
   pub fits : base + length p ≤ length b
 
-inside-step : (mode : Mode) (p : List ℕ) (at : ℕ) (fs : List Field) (r : Step) → r ≡ read_field mode p at
+inside-step : (mode : Mode) (p : List ℕ) (at : ℕ) (fs : List Field) (r : Result (Option Field) WireError) → r ≡ read_field mode p at
     → on_step (walk_at mode p) r ≡ whole fs
     → ((f : Field) (gs : List Field) → fs ≡ f ∷ gs → walk_at mode p f.next ≡ whole gs → Each (FieldWithin p) gs)
     → Each (FieldWithin p) fs
 inside-step mode p at [] r q h ih = none_left
-inside-step mode p at (g ∷ gs) step.End q h ih = clash (cc)
-inside-step mode p at (g ∷ gs) (step.Refused why) q h ih = clash (cc)
-inside-step mode p at (g ∷ gs) (step.At f) q h ih =
+inside-step mode p at (g ∷ gs) (Ok None) q h ih = clash (cc)
+inside-step mode p at (g ∷ gs) (Err why) q h ih = clash (cc)
+inside-step mode p at (g ∷ gs) (Ok (Some f)) q h ih =
     let eg : f ≡ g = cc in let ew : walk_at mode p f.next ≡ whole gs = cc in
     let m = field-stands mode p at f q in
     subst (FieldWithin p) eg (record { order = m.ends; fits = m.within }) and ih f gs
@@ -86,16 +84,16 @@ part-part b base p f q i =
 
 -- ---- the last of a list, or what was before
 abbrev pub or_last : {A : Type 0} → Option A → Option A → Option A
-or_last none d = d
-or_last (some x) d = some x
+or_last None d = d
+or_last (Some x) d = Some x
 
-or_put : {A : Type 0} (o d : Option A) (x : A) → or_last (or_else o x) d ≡ or_last o (some x)
-or_put none d x = refl
-or_put (some y) d x = refl
+or_put : {A : Type 0} (o d : Option A) (x : A) → or_last (or_else o x) d ≡ or_last o (Some x)
+or_put None d x = refl
+or_put (Some y) d x = refl
 
-pub or-none : {A : Type 0} (o : Option A) → or_last o none ≡ o
-or-none none = refl
-or-none (some x) = refl
+pub or-none : {A : Type 0} (o : Option A) → or_last o None ≡ o
+or-none None = refl
+or-none (Some x) = refl
 
 -- a slot g of kind k is fed by the length-delimited fields m, and by no other
 abbrev pub Feeds : Kind → (Slots → Place) → ℕ → Type 0
@@ -113,8 +111,8 @@ along-last b base p k g m q feed (f ∷ fs) t (i and is) =
     either (is_bytes m f)
     (λ x. let fx : g (with_field k t f) ≡ place_of f = fd ∙ ap (λ (z : Bool). cond z (place_of f) (g t)) x in
     let px = pb ∙ ap (λ (z : Bool). cond z (value_in p f ∷ ds) ds) x in
-    let v : bytes_at b base (place_of f) ≡ some (value_in p f) =
-    ap some (part-value b base p f.start f.next q i.order i.fits) in
+    let v : bytes_at b base (place_of f) ≡ Some (value_in p f) =
+    ap Some (part-value b base p f.start f.next q i.order i.fits) in
     ih ∙ ap (or_last (last ds)) (ap (bytes_at b base) fx ∙ v)
     ∙ sym (ap (λ (l : List (List ℕ)). or_last (last l) (bytes_at b base (g t))) px
     ∙ or_put (last ds) (bytes_at b base (g t)) (value_in p f)))
@@ -124,7 +122,7 @@ along-last b base p k g m q feed (f ∷ fs) t (i and is) =
     ∙ sym (ap (λ (l : List (List ℕ)). or_last (last l) (bytes_at b base (g t))) px))
 
 pub slot_last : (b : List ℕ) (base : ℕ) (p : List ℕ) (k : Kind) (g : Slots → Place) (m : ℕ) → Part b base p
-    → Feeds k g m → (fs : List Field) (t : Slots) → Each (FieldWithin p) fs → bytes_at b base (g t) ≡ none
+    → Feeds k g m → (fs : List Field) (t : Slots) → Each (FieldWithin p) fs → bytes_at b base (g t) ≡ None
     → bytes_at b base (g (slots_along k t (whole fs))) ≡ last (bytes_in m (entries_of p fs))
 slot_last b base p k g m q feed fs t i z = along-last b base p k g m q feed fs t i
     ∙ ap (or_last (last (bytes_in m (entries_of p fs)))) z ∙ or-none (last (bytes_in m (entries_of p fs)))
@@ -156,7 +154,7 @@ along-number p k m feed (f ∷ fs) t =
     ∙ sym (ap (λ (l : List ℕ). or_last (last l) (number_at t.number)) px))
 
 pub number-last : (p : List ℕ) (k : Kind) (m : ℕ) → FeedsNumber k m → (fs : List Field) (t : Slots)
-    → number_at t.number ≡ none → number_at (slots_along k t (whole fs)).number ≡ last (numbers_in m (entries_of p fs))
+    → number_at t.number ≡ None → number_at (slots_along k t (whole fs)).number ≡ last (numbers_in m (entries_of p fs))
 number-last p k m feed fs t z = along-number p k m feed fs t ∙ ap (or_last (last (numbers_in m (entries_of p fs)))) z
     ∙ or-none (last (numbers_in m (entries_of p fs)))
 

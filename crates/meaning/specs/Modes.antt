@@ -3,11 +3,8 @@ use Rattle.std.specs.Prelude.{ℕ, ◌-◌, ◌≡◌, List}
 use Rattle.basis.specs.declared.Mode.TheVariants.{Plain, Groups}
 use Rattle.basis.specs.declared.Edition.{Edition}
 use Rattle.basis.specs.Dialect.{spoken}
-use Rattle.protobuf.specs.declared.Step.TheVariants as step
 use Rattle.protobuf.specs.ModeLaws.{plain_body}
 use Rattle.schema.specs.declared.Kind.TheVariants as kind
-use Rattle.schema.specs.declared.Counted.TheVariants as count
-use Rattle.schema.specs.declared.Tested.TheVariants as tested
 use Rattle.rpc.specs.Rpc.{SubOpts, RawMessage, ControlIHave, ControlIWant, ControlGraft, PeerInfo, ControlPrune}
 use Rattle.rpc.specs.Rpc.{ControlIDontWant, ControlMessage, Rpc}
 use Rattle.rpc.specs.Grammar.{Pairs, no_pairs, ◌paired◌, IsSubOpts, is-sub_opts, IsMessage, is-message, IsIHave}

@@ -1,7 +1,6 @@
 -- The RPC that a body and its records say. The records are taken from the last to the first: topics, message ids and
 -- peers are collected up to the record that holds them.
-use Rattle.std.specs.Prelude.{ℕ, ◌+◌, Bool, cond, List, [], ◌∷◌}
-use Rattle.std.proofs.Math.Option.{Option, none, some}
+use Rattle.std.specs.Prelude.{Option, Some, None, ℕ, ◌+◌, Bool, cond, List, [], ◌∷◌}
 use Rattle.protobuf.specs.Walk.{between}
 use Rattle.schema.specs.declared.Kind.{Kind}
 use Rattle.schema.specs.declared.Kind.TheVariants as kind
@@ -16,12 +15,12 @@ use Rattle.rpc.specs.Grammar.{nonzero}
 
 -- the bytes at a place of a record that begins at `at`
 abbrev pub bytes_at : List ℕ → ℕ → Place → Option (List ℕ)
-bytes_at b at place.Absent = none
-bytes_at b at (place.Present a e) = some (between b (at + a) (at + e))
+bytes_at b at place.Absent = None
+bytes_at b at (place.Present a e) = Some (between b (at + a) (at + e))
 
 abbrev pub number_at : Number → Option ℕ
-number_at number.Absent = none
-number_at (number.Present v) = some v
+number_at number.Absent = None
+number_at (number.Present v) = Some v
 
 abbrev pub raw_of : List ℕ → Record → List ℕ
 raw_of b r = between b r.start r.end
@@ -218,7 +217,7 @@ gather b (r ∷ rs) g = gather_kind r.kind b r (gather b rs g)
 -- the RPC: a control is there where the decoder says so
 abbrev pub rpc_from : Bool → Gathered → Rpc
 rpc_from c g =
-    record { subscriptions = g.subscriptions; publish = g.publish; control = cond c (some g.control) none }
+    record { subscriptions = g.subscriptions; publish = g.publish; control = cond c (Some g.control) None }
 
 unfoldable pub read_back : List ℕ → List Record → Bool → Rpc
 read_back b rs c = rpc_from c (gather b rs nothing)

@@ -3,11 +3,10 @@
 -- has the numbers of the fields that enclose the place, the outermost first; the offset counts from the start of the
 -- whole; the reason has the Rust's own numbers, which count from the start of the part that is refused itself. The
 -- places of 14 to 16 are not told. Nothing here speaks of a reader.
-use Rattle.std.specs.Prelude.{ℕ, ◌+◌, ◌^◌, ◌≤◌, ◌<◌, ◌≡◌, List, [], ◌∷◌, ◌++◌, length}
+use Rattle.std.specs.Prelude.{Option, Some as At, ℕ, ◌+◌, ◌^◌, ◌≤◌, ◌<◌, ◌≡◌, List, [], ◌∷◌, ◌++◌, length}
 use Rattle.basis.specs.declared.Mode.{Mode}
 use Rattle.basis.specs.Dialect.{spoken}
 use Rattle.basis.specs.declared.Spot.{Spot}
-use Rattle.basis.specs.declared.Spot.TheVariants.{At}
 use Rattle.utf8.specs.Grammar.{Utf8}
 use Rattle.peer_id.specs.Uvarint.{uvarint}
 use Rattle.protobuf.specs.declared.WireError.{WireError}
@@ -85,12 +84,12 @@ pub data RefusedAt (mode : Mode) : Kind → ℕ → List ℕ → List ℕ → �
       → RefusedAt mode k base (tag n type ++ (v ++ rest)) path offset why
 
 -- the place as it is told: the offset and the first three numbers of the path, 0 for none
-abbrev pub place_at : ℕ → List ℕ → Spot
-place_at offset [] = At offset 0 0 0
-place_at offset (a ∷ []) = At offset a 0 0
-place_at offset (a ∷ b ∷ []) = At offset a b 0
-place_at offset (a ∷ b ∷ c ∷ rest) = At offset a b c
+abbrev pub place_at : ℕ → List ℕ → Option Spot
+place_at offset [] = At (record { offset = offset; outer = 0; middle = 0; inner = 0 })
+place_at offset (a ∷ []) = At (record { offset = offset; outer = a; middle = 0; inner = 0 })
+place_at offset (a ∷ b ∷ []) = At (record { offset = offset; outer = a; middle = b; inner = 0 })
+place_at offset (a ∷ b ∷ c ∷ rest) = At (record { offset = offset; outer = a; middle = b; inner = c })
 
 -- as a refusal is told: 14 to 16 carry no place
-abbrev pub told_at : WireError → ℕ → List ℕ → Spot
+abbrev pub told_at : WireError → ℕ → List ℕ → Option Spot
 told_at why offset path = placed_as (spot_of why) (place_at offset path)

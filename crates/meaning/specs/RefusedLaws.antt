@@ -1,14 +1,13 @@
 -- A message is refused, by this reason and at this place, exactly where its first refusal in reading order has them; so
 -- there is at most one. The place lies within the message, and the path is one of nine, in 1.2 of ten. 14 to 16 carry
 -- no place.
-use Rattle.std.specs.Prelude.{ℕ, ◌+◌, ◌-◌, ◌*◌, ◌^◌, ◌≤◌, ◌<◌, ◌≡◌, refl, false, cond, List, [], ◌∷◌, ◌++◌, ◌↔◌, length, drop, eqb}
+use Rattle.std.specs.Prelude.{Option, None, Result, Ok, Err, Some, ℕ, ◌+◌, ◌-◌, ◌*◌, ◌^◌, ◌≤◌, ◌<◌, ◌≡◌, refl, false, cond, List, [], ◌∷◌, ◌++◌, ◌↔◌, length, drop, eqb}
 use Rattle.std.proofs.Common.{sym, ap, ap₂, subst, ◌∙◌, append_assoc, arith, length-append, length-drop, eqb-true, eq-eqb, ne_eqb}
 use Rattle.basis.specs.declared.Mode.{Mode}
 use Rattle.basis.specs.declared.Mode.TheVariants.{Groups}
 use Rattle.basis.specs.declared.Edition.{Edition}
 use Rattle.basis.specs.declared.Edition.TheVariants.{V11, V12}
 use Rattle.basis.specs.declared.Spot.{Spot}
-use Rattle.basis.specs.declared.Spot.TheVariants.{Nowhere, At}
 use Rattle.basis.specs.Spot.{at as spot-at, inside as enclosed, or_else, fields_of as numbersOf}
 use Rattle.basis.specs.Cases.{either, clash}
 use Rattle.basis.specs.Bytes.{Bytes as AreBytes}
@@ -23,7 +22,6 @@ use Rattle.peer_id.specs.Uvarint.{uvarint}
 use Rattle.protobuf.specs.declared.Field.{Field}
 use Rattle.protobuf.specs.declared.WireError.{WireError}
 use Rattle.protobuf.specs.declared.WireError.TheVariants.{InvalidUtf8}
-use Rattle.protobuf.specs.declared.Step.TheVariants as step
 use Rattle.protobuf.specs.Refusal.{spot_of, placed_as}
 use Rattle.protobuf.specs.Field.{read_field}
 use Rattle.protobuf.specs.Laws.{Stands, field-stands}
@@ -43,8 +41,6 @@ use Rattle.schema.specs.declared.Kind.TheVariants as kind
 use Rattle.schema.specs.declared.Form.{Form}
 use Rattle.schema.specs.declared.Role.{Role}
 use Rattle.schema.specs.declared.Role.TheVariants.{Skip, Number, Text, Bytes, Unsigned, Topic, MessageId, Sub}
-use Rattle.schema.specs.declared.Counted.{Counted}
-use Rattle.schema.specs.declared.Counted.TheVariants as count
 use Rattle.schema.specs.Schema.{added_in, row_from, row_of, is_varint, role_of, rank, own_of}
 use Rattle.schema.specs.SchemaLaws.{sub-rank}
 use Rattle.schema.specs.Kinds.{by_rank}
@@ -66,21 +62,21 @@ place_inside n start offset (a ∷ b ∷ []) = refl
 place_inside n start offset (a ∷ b ∷ c ∷ rest) = refl
 
 -- a place comes first
-place-first : (offset : ℕ) (path : List ℕ) (x : Spot) → or_else (place_at offset path) x ≡ place_at offset path
+place-first : (offset : ℕ) (path : List ℕ) (x : Option Spot) → or_else (place_at offset path) x ≡ place_at offset path
 place-first offset [] x = refl
 place-first offset (a ∷ []) x = refl
 place-first offset (a ∷ b ∷ []) x = refl
 place-first offset (a ∷ b ∷ c ∷ rest) x = refl
 
 -- ---- a place as it is told: what is done to places alike is told alike
-told-by : (own x y : Spot) (f : Spot → Spot) → placed_as own x ≡ placed_as own y → placed_as own (f x) ≡ placed_as own (f y)
-told-by Nowhere x y f e = refl
-told-by (At offset outer middle inner) x y f e = ap f e
+told-by : (own x y : Option Spot) (f : Option Spot → Option Spot) → placed_as own x ≡ placed_as own y → placed_as own (f x) ≡ placed_as own (f y)
+told-by None x y f e = refl
+told-by (Some spot) x y f e = ap f e
 
 -- a refusal's own place
-told-own : (own x : Spot) → own ≡ placed_as own x → placed_as own own ≡ placed_as own x
-told-own Nowhere x e = refl
-told-own (At offset outer middle inner) x e = e
+told-own : (own x : Option Spot) → own ≡ placed_as own x → placed_as own own ≡ placed_as own x
+told-own None x e = refl
+told-own (Some spot) x e = e
 
 -- ---- what a field holds, and its role
 bytes-payload : (s : List ℕ) (f : Field) → f.wire_type ≡ 2 → payload_of s f ≡ bytes (value_in s f)
@@ -124,7 +120,7 @@ abbrev RoleAt : Kind → Field → Role
 RoleAt k f = role_of k f.field f.wire_type
 
 counts-fine : (mode : Mode) (k : Kind) (s : List ℕ) (f : Field) (m : ℕ) → AreBytes s
-    → role_count (counted mode) s f (RoleAt k f) ≡ count.Records m → Fine mode k f.field (payload_of s f)
+    → role_count (counted mode) s f (RoleAt k f) ≡ Ok m → Fine mode k f.field (payload_of s f)
 counts-fine mode k s f m b h =
     either (eqb f.wire_type 2)
     (λ t. let w = eqb-true f.wire_type 2 t in
@@ -135,7 +131,7 @@ counts-fine mode k s f m b h =
     (λ t. other_fine mode k f.field s f t)
 
 fine-counts : (mode : Mode) (k : Kind) (s : List ℕ) (f : Field) → Fine mode k f.field (payload_of s f)
-    → (m : ℕ) × (role_count (counted mode) s f (RoleAt k f) ≡ count.Records m)
+    → (m : ℕ) × (role_count (counted mode) s f (RoleAt k f) ≡ Ok m)
 fine-counts mode k s f h =
     either (eqb f.wire_type 2)
     (λ t. let w = eqb-true f.wire_type 2 t in
@@ -212,15 +208,15 @@ delimited mode s at f t st w =
 
 -- ---- from the reader
 -- what stands in s from `at` on is refused, and the place is the one that is told
-record Refuses (mode : Mode) (k : Kind) (s : List ℕ) (at : ℕ) (why : WireError) (spot : Spot) : Type 0 where
+record Refuses (mode : Mode) (k : Kind) (s : List ℕ) (at : ℕ) (why : WireError) (spot : Option Spot) : Type 0 where
   path : List ℕ
   offset : ℕ
   is : RefusedAt mode k at (drop at s) path offset why
   told : placed_as (spot_of why) spot ≡ told_at why offset path
 
 text-refuses : (mode : Mode) (k : Kind) (s : List ℕ) (at : ℕ) (f : Field) (n m : ℕ) (why : WireError) (r : Role)
-    (x : Spot) → Stood mode s at f → Stands s at f → RoleAt k f ≡ r → IsText r m → f.wire_type ≡ 2
-    → text_count s f n ≡ count.Refused why → Refuses mode k s at why (or_else (text_spot s f) x)
+    (x : Option Spot) → Stood mode s at f → Stands s at f → RoleAt k f ≡ r → IsText r m → f.wire_type ≡ 2
+    → text_count s f n ≡ Err why → Refuses mode k s at why (or_else (text_spot s f) x)
 unfolding text_count text_spot
 text-refuses mode k s at f n m why r x t st q i w h =
     let d = value_in s f in
@@ -242,7 +238,7 @@ text-refuses mode k s at f n m why r x t st q i w h =
       told = refl;
     }))
 
-sub-refuses : (mode : Mode) (k j : Kind) (form : Form) (s : List ℕ) (at : ℕ) (f : Field) (why : WireError) (x : Spot)
+sub-refuses : (mode : Mode) (k j : Kind) (form : Form) (s : List ℕ) (at : ℕ) (f : Field) (why : WireError) (x : Option Spot)
     → Stood mode s at f → Stands s at f → RoleAt k f ≡ Sub j form → f.wire_type ≡ 2
     → Refuses mode j (value_in s f) 0 why (spot_in mode j (value_in s f))
     → Refuses mode k s at why (or_else (enclosed f.field f.start (spot_in mode j (value_in s f))) x)
@@ -261,16 +257,16 @@ sub-refuses mode k j form s at f why x t st q w i =
           (sym place) (inside d (drop f.next s) t.least t.most g.small role i.is));
       told = told-by (spot_of why) (spot_in mode j d) (place_at i.offset i.path)
           (λ y. or_else (enclosed f.field f.start y) x) i.told
-          ∙ ap (placed_as (spot_of why)) (ap (λ (y : Spot). or_else y x)
+          ∙ ap (placed_as (spot_of why)) (ap (λ (y : Option Spot). or_else y x)
           (place_inside f.field f.start i.offset i.path)
           ∙ place-first (f.start + i.offset) (f.field ∷ i.path) x);
     }
 
 -- a field that is refused
-role_refuses : (mode : Mode) (k : Kind) (s : List ℕ) (at : ℕ) (f : Field) (why : WireError) (r : Role) (x : Spot)
+role_refuses : (mode : Mode) (k : Kind) (s : List ℕ) (at : ℕ) (f : Field) (why : WireError) (r : Role) (x : Option Spot)
     → AreBytes s → Stood mode s at f → Stands s at f → RoleAt k f ≡ r
-    → role_count (counted mode) s f r ≡ count.Refused why
-    → ((j : Kind) (d : List ℕ) → rank j < rank k → AreBytes d → counted mode j d ≡ count.Refused why
+    → role_count (counted mode) s f r ≡ Err why
+    → ((j : Kind) (d : List ℕ) → rank j < rank k → AreBytes d → counted mode j d ≡ Err why
     → Refuses mode j d 0 why (spot_in mode j d))
     → Refuses mode k s at why (or_else (role_spot (spot_in mode) s f r) x)
 role_refuses mode k s at f why Skip x b t st q h ih = clash (cc)
@@ -291,8 +287,8 @@ role_refuses mode k s at f why (Sub j form) x b t st q h ih =
     (plus-refused (own_of j) (counted mode j (value_in s f)) why h))
 
 -- a field without refusal, before what is refused
-later-refuses : (mode : Mode) (k : Kind) (s : List ℕ) (at : ℕ) (f : Field) (why : WireError) (m : ℕ) (x : Spot)
-    → AreBytes s → Stood mode s at f → Stands s at f → role_count (counted mode) s f (RoleAt k f) ≡ count.Records m
+later-refuses : (mode : Mode) (k : Kind) (s : List ℕ) (at : ℕ) (f : Field) (why : WireError) (m : ℕ) (x : Option Spot)
+    → AreBytes s → Stood mode s at f → Stands s at f → role_count (counted mode) s f (RoleAt k f) ≡ Ok m
     → Refuses mode k s f.next why x → Refuses mode k s at why (or_else (role_spot (spot_in mode) s f (RoleAt k f)) x)
 unfolding tag
 later-refuses mode k s at f why m x b t st h i =
@@ -306,50 +302,50 @@ later-refuses mode k s at f why m x b t st h i =
       offset = i.offset;
       is = subst (λ (l : List ℕ). RefusedAt mode k at l i.path i.offset why) (sym t.here)
           (later (drop f.next s) t.least t.most t.is fine there);
-      told = ap (λ (y : Spot). placed_as (spot_of why) (or_else y x)) (role_clean mode s f (RoleAt k f) m h) ∙ i.told;
+      told = ap (λ (y : Option Spot). placed_as (spot_of why) (or_else y x)) (role_clean mode s f (RoleAt k f) m h) ∙ i.told;
     }
 
-field-refuses : (mode : Mode) (k : Kind) (s : List ℕ) (at : ℕ) (f : Field) (why : WireError) (c : Counted) → AreBytes s
+field-refuses : (mode : Mode) (k : Kind) (s : List ℕ) (at : ℕ) (f : Field) (why : WireError) (c : Result ℕ WireError) → AreBytes s
     → Stood mode s at f → Stands s at f → role_count (counted mode) s f (RoleAt k f) ≡ c
-    → and_then c (count_along (counted mode) k s (walk_at mode s f.next)) ≡ count.Refused why
-    → (count_along (counted mode) k s (walk_at mode s f.next) ≡ count.Refused why
+    → and_then c (count_along (counted mode) k s (walk_at mode s f.next)) ≡ Err why
+    → (count_along (counted mode) k s (walk_at mode s f.next) ≡ Err why
     → Refuses mode k s f.next why (spot_along (spot_in mode) k s (walk_at mode s f.next)))
-    → ((j : Kind) (d : List ℕ) → rank j < rank k → AreBytes d → counted mode j d ≡ count.Refused why
+    → ((j : Kind) (d : List ℕ) → rank j < rank k → AreBytes d → counted mode j d ≡ Err why
     → Refuses mode j d 0 why (spot_in mode j d))
     → Refuses mode k s at why (or_else (role_spot (spot_in mode) s f (RoleAt k f))
     (spot_along (spot_in mode) k s (walk_at mode s f.next)))
-field-refuses mode k s at f why (count.Records m) b t st q h rest ih =
+field-refuses mode k s at f why (Ok m) b t st q h rest ih =
     later-refuses mode k s at f why m (spot_along (spot_in mode) k s (walk_at mode s f.next)) b t st q
     (rest (plus-refused m (count_along (counted mode) k s (walk_at mode s f.next)) why h))
-field-refuses mode k s at f why (count.Refused w) b t st q h rest ih =
+field-refuses mode k s at f why (Err w) b t st q h rest ih =
     let e : w ≡ why = cc in
     role_refuses mode k s at f why (RoleAt k f) (spot_along (spot_in mode) k s (walk_at mode s f.next)) b t st refl
-    (q ∙ ap count.Refused e) ih
+    (q ∙ ap Err e) ih
 
 wire-refuses : (mode : Mode) (k : Kind) (s : List ℕ) (at : ℕ) (why : WireError) → AreBytes s
-    → step.Refused why ≡ read_field mode s at → Refuses mode k s at why (spot_of why)
+    → Err why ≡ read_field mode s at → Refuses mode k s at why (spot_of why)
 wire-refuses mode k s at why b e =
     let t = is-fault mode s at why b e in
     record {
       path = [];
       offset = t.place;
       is = wire t.fault;
-      told = told-own (spot_of why) (spot-at t.place) t.spot-at;
+      told = told-own (spot_of why) (Some (spot-at t.place)) t.spot-at;
     }
 
 -- a message that is refused has a first refusal
-refuses : (mode : Mode) (k : Kind) (s : List ℕ) (why : WireError) → AreBytes s → counted mode k s ≡ count.Refused why
+refuses : (mode : Mode) (k : Kind) (s : List ℕ) (why : WireError) → AreBytes s → counted mode k s ≡ Err why
     → Refuses mode k s 0 why (spot_in mode k s)
 refuses mode =
-    by_rank (λ k. (s : List ℕ) (why : WireError) → AreBytes s → counted mode k s ≡ count.Refused why
+    by_rank (λ k. (s : List ℕ) (why : WireError) → AreBytes s → counted mode k s ≡ Err why
     → Refuses mode k s 0 why (spot_in mode k s))
     (λ k ih s why b h. subst (Refuses mode k s 0 why) (sym (spot_along_lem mode k s))
-    (along mode s (λ (at : ℕ) (w : Fields). count_along (counted mode) k s w ≡ count.Refused why
+    (along mode s (λ (at : ℕ) (w : Fields). count_along (counted mode) k s w ≡ Err why
     → Refuses mode k s at why (spot_along (spot_in mode) k s w))
     (λ at g. clash (cc))
     (λ at v e g. let z : v ≡ why = cc in
     subst (λ (a : WireError). Refuses mode k s at why (spot_of a)) (sym z)
-    (wire-refuses mode k s at why b (ap step.Refused (sym z) ∙ e)))
+    (wire-refuses mode k s at why b (ap Err (sym z) ∙ e)))
     (λ at f st e rest g.
     field-refuses mode k s at f why (role_count (counted mode) s f (RoleAt k f)) b
     (field-stood mode s at f b e) st refl g rest
@@ -381,7 +377,7 @@ field-ends s at n type v rest f st h l =
 -- a length-delimited field of the grammar is read where it stands
 record StandsAt (mode : Mode) (s : List ℕ) (at n : ℕ) (d rest : List ℕ) : Type 0 where
   f : Field
-  read : step.At f ≡ read_field mode s at
+  read : Ok (Some f) ≡ read_field mode s at
   number_of : f.field ≡ n
   type_of_lem : f.wire_type ≡ 2
   value_of : value_in s f ≡ d
@@ -413,7 +409,7 @@ stands_at mode s at n d rest l m z h =
     }
 
 text-back : (mode : Mode) (s : List ℕ) (f : Field) (r : Role) (m : ℕ) → IsText r m → is_utf8 (value_in s f) ≡ false
-    → (role_count (counted mode) s f r ≡ count.Refused (InvalidUtf8 f.tag_end))
+    → (role_count (counted mode) s f r ≡ Err (InvalidUtf8 f.tag_end))
     × (role_spot (spot_in mode) s f r ≡ place_at f.tag_end [])
 unfolding text_count text_spot
 text-back mode s f _ _ is-text y = (simp y, simp y)
@@ -432,19 +428,19 @@ entry-is s f n p e = (ap (λ (x : Entry). x.field) e, ap (λ (x : Entry). x.payl
 -- what is told of a message from a place on
 record Tells (mode : Mode) (k : Kind) (s : List ℕ) (at : ℕ) (path : List ℕ) (offset : ℕ)
     (why : WireError) : Type 0 where
-  counts : count_along (counted mode) k s (walk_at mode s at) ≡ count.Refused why
+  counts : count_along (counted mode) k s (walk_at mode s at) ≡ Err why
   spots : placed_as (spot_of why) (spot_along (spot_in mode) k s (walk_at mode s at)) ≡ told_at why offset path
 
 -- by a field that is refused
 tells-field : (mode : Mode) (k : Kind) (s : List ℕ) (at : ℕ) (f : Field) (path : List ℕ) (offset : ℕ) (why : WireError)
-    → step.At f ≡ read_field mode s at → role_count (counted mode) s f (RoleAt k f) ≡ count.Refused why
+    → Ok (Some f) ≡ read_field mode s at → role_count (counted mode) s f (RoleAt k f) ≡ Err why
     → placed_as (spot_of why) (role_spot (spot_in mode) s f (RoleAt k f)) ≡ told_at why offset path
     → Tells mode k s at path offset why
 tells-field mode k s at f path offset why e c p =
-    let w = walk_on mode s at (step.At f) e in
+    let w = walk_on mode s at (Ok (Some f)) e in
     record {
       counts = ap (count_along (counted mode) k s) w
-          ∙ ap (λ (x : Counted). and_then x (count_along (counted mode) k s (walk_at mode s f.next))) c;
+          ∙ ap (λ (x : Result ℕ WireError). and_then x (count_along (counted mode) k s (walk_at mode s f.next))) c;
       spots = ap (λ (x : Fields). placed_as (spot_of why) (spot_along (spot_in mode) k s x)) w
           ∙ told-by (spot_of why) (role_spot (spot_in mode) s f (RoleAt k f)) (place_at offset path)
           (λ x. or_else x (spot_along (spot_in mode) k s (walk_at mode s f.next))) p
@@ -454,14 +450,14 @@ tells-field mode k s at f path offset why e c p =
 
 -- by a later one
 tells-later : (mode : Mode) (k : Kind) (s : List ℕ) (at : ℕ) (f : Field) (path : List ℕ) (offset : ℕ) (why : WireError)
-    (m : ℕ) → step.At f ≡ read_field mode s at → role_count (counted mode) s f (RoleAt k f) ≡ count.Records m
+    (m : ℕ) → Ok (Some f) ≡ read_field mode s at → role_count (counted mode) s f (RoleAt k f) ≡ Ok m
     → Tells mode k s f.next path offset why → Tells mode k s at path offset why
 tells-later mode k s at f path offset why m e c t =
-    let w = walk_on mode s at (step.At f) e in
+    let w = walk_on mode s at (Ok (Some f)) e in
     record {
       counts = ap (count_along (counted mode) k s) w ∙ ap₂ and_then c t.counts;
       spots = ap (λ (x : Fields). placed_as (spot_of why) (spot_along (spot_in mode) k s x)) w
-          ∙ ap (λ (x : Spot). placed_as (spot_of why) (or_else x (spot_along (spot_in mode) k s (walk_at mode s f.next))))
+          ∙ ap (λ (x : Option Spot). placed_as (spot_of why) (or_else x (spot_along (spot_in mode) k s (walk_at mode s f.next))))
           (role_clean mode s f (RoleAt k f) m c) ∙ t.spots;
     }
 
@@ -469,7 +465,7 @@ tells : {mode : Mode} {k : Kind} {base offset : ℕ} {r path : List ℕ} {why : 
     → RefusedAt mode k base r path offset why → drop base s ≡ r → Tells mode k s base path offset why
 tells {mode} {k} {base} s (wire {place = place} {why = why} f) h =
     let g = fault-refused mode s base f h in
-    let w = walk_on mode s base (step.Refused why) (sym g.0) in
+    let w = walk_on mode s base (Err why) (sym g.0) in
     record {
       counts = ap (count_along (counted mode) k s) w;
       spots = ap (λ (x : Fields). placed_as (spot_of why) (spot_along (spot_in mode) k s x)) w
@@ -482,7 +478,7 @@ tells {mode} {k} {base} s (text {n = n} {m = m} d rest l u z i never) h =
     (λ e. ap is_utf8 t.value_of ∙ e) in
     let q = text-back mode s t.f (RoleAt k t.f) m (subst (λ (x : Role). IsText x m) (sym role) i) y in
     tells-field mode k s base t.f [] (base + length (tag n 2)) (InvalidUtf8 (base + length (tag n 2))) t.read
-    (q.0 ∙ ap (λ (p : ℕ). count.Refused (InvalidUtf8 p)) t.tag-place)
+    (q.0 ∙ ap (λ (p : ℕ). Err (InvalidUtf8 p)) t.tag-place)
     (q.1 ∙ ap (λ (p : ℕ). place_at p []) t.tag-place)
 tells {mode} {k} {base} s
     (inside {j = j} {form = form} {n = n} {offset = offset} {path = path} {why = why} d rest l u z role i) h =
@@ -490,7 +486,7 @@ tells {mode} {k} {base} s
     let f = t.f in
     let here : RoleAt k f ≡ Sub j form = ap₂ (role_of k) t.number_of t.type_of_lem ∙ role in
     let inner = tells d i refl in
-    let c : counted mode j (value_in s f) ≡ count.Refused why = ap (counted mode j) t.value_of ∙ count_along_lem mode j d
+    let c : counted mode j (value_in s f) ≡ Err why = ap (counted mode j) t.value_of ∙ count_along_lem mode j d
     ∙ inner.counts in
     let p : placed_as (spot_of why) (spot_in mode j (value_in s f)) ≡ told_at why offset path =
     ap (placed_as (spot_of why)) (ap (spot_in mode j) t.value_of ∙ spot_along_lem mode j d) ∙ inner.spots in
@@ -518,22 +514,22 @@ tells {mode} {k} {base} s
 
 -- ---- exactly
 -- the first refusal of a message, with the place as it is told
-pub record First (mode : Mode) (k : Kind) (s : List ℕ) (why : WireError) (spot : Spot) : Type 0 where
+pub record First (mode : Mode) (k : Kind) (s : List ℕ) (why : WireError) (spot : Option Spot) : Type 0 where
   pub path : List ℕ
   pub offset : ℕ
   pub is : RefusedAt mode k 0 s path offset why
   pub told : spot ≡ told_at why offset path
 
-pub first-counts : {mode : Mode} {k : Kind} {s : List ℕ} {why : WireError} {spot : Spot} → First mode k s why spot
-    → (counted mode k s ≡ count.Refused why) × (placed_as (spot_of why) (spot_in mode k s) ≡ spot)
+pub first-counts : {mode : Mode} {k : Kind} {s : List ℕ} {why : WireError} {spot : Option Spot} → First mode k s why spot
+    → (counted mode k s ≡ Err why) × (placed_as (spot_of why) (spot_in mode k s) ≡ spot)
 first-counts {mode} {k} {s} {why} i =
     let t = tells s i.is refl in (
       count_along_lem mode k s ∙ t.counts,
       ap (placed_as (spot_of why)) (spot_along_lem mode k s) ∙ t.spots ∙ sym i.told,
     )
 
-pub first-exactly : (mode : Mode) (k : Kind) (s : List ℕ) (why : WireError) (spot : Spot) → AreBytes s
-    → ((counted mode k s ≡ count.Refused why) × (placed_as (spot_of why) (spot_in mode k s) ≡ spot))
+pub first-exactly : (mode : Mode) (k : Kind) (s : List ℕ) (why : WireError) (spot : Option Spot) → AreBytes s
+    → ((counted mode k s ≡ Err why) × (placed_as (spot_of why) (spot_in mode k s) ≡ spot))
     ↔ First mode k s why spot
 first-exactly mode k s why spot b = (
   λ h. let i = refuses mode k s why b h.0 in
@@ -756,9 +752,9 @@ offset-within i = omega (arith, refused-place i)
 same-offset : (o p : ℕ) (a b : List ℕ) → place_at o a ≡ place_at p b → o ≡ p
 same-offset o p a b e = sym (place-offset o a) ∙ ap offset_in e ∙ place-offset p b
   where
-    offset_in : Spot → ℕ
-    offset_in Nowhere = 0
-    offset_in (At offset outer middle inner) = offset
+    offset_in : Option Spot → ℕ
+    offset_in None = 0
+    offset_in (Some spot) = spot.offset
 
     place-offset : (o : ℕ) (path : List ℕ) → offset_in (place_at o path) ≡ o
     place-offset o [] = refl
@@ -778,7 +774,7 @@ pub one-refusal : {mode : Mode} {e : Edition} {s path path' : List ℕ} {offset 
 one-refusal {mode} {e} {s} {path} {path'} {offset} {offset'} {why} {why'} i j =
     let t = tells s i refl in
     let u = tells s j refl in
-    let c : count.Refused why ≡ count.Refused why' = sym t.counts ∙ u.counts in
+    let c : Err why ≡ Err why' = sym t.counts ∙ u.counts in
     let w : why ≡ why' = cc in
     let p : refusal_number why ≤ 7 → place_at offset path ≡ place_at offset' path' =
     λ h. sym (told-place why (place_at offset path) h) ∙ sym t.spots

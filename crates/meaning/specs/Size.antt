@@ -1,8 +1,7 @@
 -- How many records an RPC has, by the scope's list: each SubOpts, message, topic of a message, IHAVE, IWANT, message
 -- id, GRAFT, PRUNE, PeerInfo and IDONTWANT; and a body has as many as the RPC that it means.
-use Rattle.std.specs.Prelude.{ℕ, ◌+◌, ◌≡◌, refl, List, [], ◌∷◌, length}
+use Rattle.std.specs.Prelude.{Option, Some, None, ℕ, ◌+◌, ◌≡◌, refl, List, [], ◌∷◌, length}
 use Rattle.std.proofs.Common.{ap, ◌∙◌, arith}
-use Rattle.std.proofs.Math.Option.{Option, none, some}
 use Rattle.basis.specs.declared.Dialect.{Dialect}
 use Rattle.schema.specs.declared.Kind.{Kind}
 use Rattle.schema.specs.declared.Kind.TheVariants as kind
@@ -30,8 +29,8 @@ control_records c =
     + sum_of (λ d. 1 + length d.message_ids) c.idontwant
 
 abbrev pub some_records : Option ControlMessage → ℕ
-some_records none = 0
-some_records (some c) = control_records c
+some_records None = 0
+some_records (Some c) = control_records c
 
 unfoldable pub records_in : Rpc → ℕ
 records_in x = length x.subscriptions + sum_of (λ m. 1 + length m.topic_ids) x.publish + some_records

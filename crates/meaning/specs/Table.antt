@@ -1,6 +1,6 @@
 -- A record that was written to the table is read back from it as it was. Only records stand in it: neither an RPC nor a
 -- control, whose codes do not tell the dialect.
-use Rattle.std.specs.Prelude.{ℕ, zero, suc, ◌+◌, ◌-◌, ◌*◌, ◌/◌, ◌≤◌, ◌<◌, ◌≡◌, length, drop, eqb}
+use Rattle.std.specs.Prelude.{Some, ℕ, zero, suc, ◌+◌, ◌-◌, ◌*◌, ◌/◌, ◌≤◌, ◌<◌, ◌≡◌, length, drop, eqb}
 use Rattle.std.proofs.Math.Path.{refl, ap}
 use Rattle.std.proofs.Common.{sym, ap₂, ◌∙◌, add-zero, get_or-drop, get_or-append-add, drop-drop, drop_at}
 use mathlib.Core.List.{List, [], ◌∷◌, ◌++◌, append_assoc}
@@ -23,7 +23,6 @@ use Rattle.schema.specs.declared.Place.TheVariants as place
 use Rattle.schema.specs.declared.Number.{Number}
 use Rattle.schema.specs.declared.Number.TheVariants as number
 use Rattle.message.specs.declared.Record.{Record}
-use Rattle.message.specs.declared.RecordAt.TheVariants as found
 use Rattle.message.specs.Rows.{kind_code, number_words, place_words, places_words, words_of, words_of_all, kind_from}
 use Rattle.message.specs.Rows.{record_from, record_at}
 use Rattle.schema.specs.Schema.{role_of, rank, own_of}
@@ -241,6 +240,6 @@ table-back t rs owns h =
 
 -- the host's reader gives these records
 pub record_at-row : (t : List ℕ) (row : ℕ) → row < length t / 20
-    → record_at t row ≡ found.Record (record_from t (row * 20))
+    → record_at t row ≡ Some (record_from t (row * 20))
 unfolding record_at
 record_at-row t row h = simp (lt-leb (length t / 20) row h)

@@ -6,14 +6,14 @@ use native.Mathlib.Omega.{arith}
 use lib.ListN.{length, length-append}
 use lib.Seq.{sets, length-sets}
 use borrow.Author.Tests.{eq-eqb, ne_eqb}
+use Rattle.std.specs.Prelude.{Ok, Err, Some, None}
 use Rattle.basis.specs.declared.Mode.{Mode}
 use Rattle.basis.specs.Lists.{sets-append}
 use Rattle.protobuf.specs.declared.Field.{Field}
 use Rattle.protobuf.specs.declared.WireError.{WireError}
-use Rattle.protobuf.specs.declared.Step.TheVariants as step
 use Rattle.protobuf.specs.Field.{read_field}
 use Rattle.protobuf.specs.Walk.{walk_at}
-use Rattle.protobuf.specs.WalkLaws.{walk_on, walk_end}
+use Rattle.protobuf.specs.WalkLaws.{walk_on}
 use Rattle.schema.specs.declared.Kind.{Kind}
 use Rattle.schema.specs.declared.Role.{Role}
 use Rattle.schema.specs.declared.Slots.{Slots}
@@ -101,18 +101,15 @@ module _ (mode : Mode) (k : Kind) (base : ℕ) (s : List ℕ) where
   puts_own t u row x h e w = rw (own-some h) (puts_one t u row (row + 1) _ (refl, rw e at w))
 
   module _ (at : ℕ) where
-    pub along-done : length s ≤ at → along_at at ≡ []
-    along-done h = ap (rows_along (rows_of mode) k base s) (walk_end mode s at h)
+    pub along-end : (Ok None) ≡ read_field mode s at → along_at at ≡ []
+    along-end h = ap (rows_along (rows_of mode) k base s) (walk_on mode s at (Ok None) h)
 
-    pub along-end : step.End ≡ read_field mode s at → along_at at ≡ []
-    along-end h = ap (rows_along (rows_of mode) k base s) (walk_on mode s at step.End h)
+    pub along-refused : (why : WireError) → Err why ≡ read_field mode s at → along_at at ≡ []
+    along-refused why h = ap (rows_along (rows_of mode) k base s) (walk_on mode s at (Err why) h)
 
-    pub along-refused : (why : WireError) → step.Refused why ≡ read_field mode s at → along_at at ≡ []
-    along-refused why h = ap (rows_along (rows_of mode) k base s) (walk_on mode s at (step.Refused why) h)
-
-    pub along-field : (f : Field) → step.At f ≡ read_field mode s at → along_at at ≡ field_rows mode k base s f ++ along_at f.next
+    pub along-field : (f : Field) → Ok (Some f) ≡ read_field mode s at → along_at at ≡ field_rows mode k base s f ++ along_at f.next
     unfolding field_rows
-    along-field f h = ap (rows_along (rows_of mode) k base s) (walk_on mode s at (step.At f) h)
+    along-field f h = ap (rows_along (rows_of mode) k base s) (walk_on mode s at (Ok (Some f)) h)
 
   -- a field's records, by its role
   module _ (f : Field) (r : Role) (e : role_of k f.field f.wire_type ≡ r) where

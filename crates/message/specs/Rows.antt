@@ -1,7 +1,7 @@
 -- The records of a message, in the order in which its bytes have them, each before what stands inside it; and how a
 -- record stands in the lent table: twenty words. What is absent is zeros; a place that is present is 1, its start and
 -- its end, and a number 1 and its value.
-use Rattle.std.specs.Prelude.{ℕ, ◌+◌, ◌*◌, ◌/◌, List, [], ◌∷◌, ◌++◌, cond, length, get_or, eqb, leb}
+use Rattle.std.specs.Prelude.{Option, Some, None, ℕ, ◌+◌, ◌*◌, ◌/◌, List, [], ◌∷◌, ◌++◌, cond, length, get_or, eqb, leb}
 use Rattle.basis.specs.declared.Mode.{Mode}
 use Rattle.basis.specs.declared.Edition.TheVariants.{V11}
 use Rattle.protobuf.specs.declared.Field.{Field}
@@ -16,8 +16,6 @@ use Rattle.schema.specs.declared.Number.{Number as Num}
 use Rattle.schema.specs.declared.Number.TheVariants as number
 use Rattle.schema.specs.declared.Slots.{Slots}
 use Rattle.message.specs.declared.Record.{Record}
-use Rattle.message.specs.declared.RecordAt.{RecordAt}
-use Rattle.message.specs.declared.RecordAt.TheVariants as found
 use Rattle.schema.specs.Schema.{role_of, own_of}
 use Rattle.schema.specs.Kinds.{over_kinds}
 use Rattle.schema.specs.Slots.{no_slots, slots_of}
@@ -134,5 +132,5 @@ record_from t i =
     }
 
 -- the record at a row; a table holds only whole rows
-unfoldable pub record_at : List ℕ → ℕ → RecordAt
-record_at t row = cond (leb (length t / 20) row) found.Nothing (found.Record (record_from t (row * 20)))
+unfoldable pub record_at : List ℕ → ℕ → Option Record
+record_at t row = cond (leb (length t / 20) row) None (Some (record_from t (row * 20)))

@@ -1,6 +1,6 @@
 -- Laws of the records: they stand along a message's fields; a message that is accepted has as many records as were
 -- counted; and a record takes twenty words.
-use Rattle.std.specs.Prelude.{ℕ, ◌+◌, ◌-◌, ◌*◌, ◌<◌, ◌≡◌, refl, List, [], ◌∷◌, ◌++◌, length, eqb}
+use Rattle.std.specs.Prelude.{Ok, ℕ, ◌+◌, ◌*◌, ◌<◌, ◌≡◌, refl, List, [], ◌∷◌, ◌++◌, length, eqb}
 use Rattle.std.proofs.Common.{sym, ap, ap₂, ◌∙◌, append_assoc, arith, length-append, eqb-true}
 use Rattle.std.proofs.lemmas.Bool.{eqb-false}
 use Rattle.basis.specs.declared.Mode.{Mode}
@@ -16,7 +16,6 @@ use Rattle.schema.specs.declared.Place.TheVariants as place
 use Rattle.schema.specs.declared.Number.{Number as Num}
 use Rattle.schema.specs.declared.Number.TheVariants as number
 use Rattle.schema.specs.declared.Slots.{Slots}
-use Rattle.schema.specs.declared.Counted.TheVariants.{Records}
 use Rattle.schema.specs.Schema.{role_of, rank, own_of}
 use Rattle.schema.specs.Count.{role_count, count_along, counted}
 use Rattle.schema.specs.SchemaLaws.{sub-rank}
@@ -68,8 +67,8 @@ own-length mode k base s =
     (λ t. let o = own-one k in let z = eqb-false (own_of k) 0 t in let e : 1 ≡ own_of k = omega arith in simp t e)
 
 role_length : (mode : Mode) (base : ℕ) (s : List ℕ) (f : Field) (r : Role) (m : ℕ)
-    → role_count (counted mode) s f r ≡ Records m
-    → ((j : Kind) (form : Form) (b : ℕ) (p : List ℕ) (x : ℕ) → r ≡ Sub j form → counted mode j p ≡ Records x
+    → role_count (counted mode) s f r ≡ Ok m
+    → ((j : Kind) (form : Form) (b : ℕ) (p : List ℕ) (x : ℕ) → r ≡ Sub j form → counted mode j p ≡ Ok x
     → length (rows_of mode j b p) ≡ own_of j + x) → length (role_rows (rows_of mode) base s f r) ≡ m
 role_length mode base s f Skip m h ih = cc
 role_length mode base s f (Number figure) m h ih = cc
@@ -83,8 +82,8 @@ role_length mode base s f (Sub k form) m h ih =
     ih k form (base + f.start) (between s f.start f.next) t.0 refl t.1 ∙ sym t.2
 
 along-length : (mode : Mode) (k : Kind) (base : ℕ) (s : List ℕ) (w : Fields) (n : ℕ)
-    → count_along (counted mode) k s w ≡ Records n
-    → ((j : Kind) (b : ℕ) (p : List ℕ) (x : ℕ) → rank j < rank k → counted mode j p ≡ Records x
+    → count_along (counted mode) k s w ≡ Ok n
+    → ((j : Kind) (b : ℕ) (p : List ℕ) (x : ℕ) → rank j < rank k → counted mode j p ≡ Ok x
     → length (rows_of mode j b p) ≡ own_of j + x) → length (rows_along (rows_of mode) k base s w) ≡ n
 along-length mode k base s end n h ih = cc
 along-length mode k base s (refused why) n h ih = clash (cc)
@@ -98,10 +97,10 @@ along-length mode k base s (f then w) n h ih =
     (rows_along (rows_of mode) k base s w)
     ∙ omega (arith, a, b, t.4)
 
-pub rows-length : (mode : Mode) (k : Kind) (base : ℕ) (s : List ℕ) (n : ℕ) → counted mode k s ≡ Records n
+pub rows-length : (mode : Mode) (k : Kind) (base : ℕ) (s : List ℕ) (n : ℕ) → counted mode k s ≡ Ok n
     → length (rows_of mode k base s) ≡ own_of k + n
 rows-length mode =
-    by_rank (λ k. (base : ℕ) (s : List ℕ) (n : ℕ) → counted mode k s ≡ Records n
+    by_rank (λ k. (base : ℕ) (s : List ℕ) (n : ℕ) → counted mode k s ≡ Ok n
     → length (rows_of mode k base s) ≡ own_of k + n)
     (λ k ih base s n h.
     let a = along-length mode k base s (fields_of mode s) n (sym (count_along_lem mode k s) ∙ h)

@@ -11,13 +11,14 @@ ghost use Rattle.schema.specs.Schema.{own_of};
 ghost use Rattle.schema.specs.Slots.{no_slots};
 ghost use Rattle.schema.specs.Count.{FieldWithin};
 ghost use Rattle.message.specs.Rows.{bare_row, own_rows, rows_of, field_rows, kind_code, number_words, place_words, places_words, words_of, words_of_all, kind_from, record_at};
+ghost use Rattle.message.specs.declared.DecodeError.TheVariants.{Refused};
 ghost use Rattle.message.specs.Decode.{has_control, decode_answer, decode_table};
 
 use basis::{Dialect, Edition, Mode};
-use protobuf::{Field, Refusal, Step, read_field};
+use protobuf::{Field, Refusal, read_field};
 use schema::{
-    Kind, Number, Place, Role, Slots, Tested, body_records, has_field, number_from, own,
-    place_from, role_of, slots_of,
+    Kind, Number, Place, Role, Slots, body_records, has_field, number_from, own, place_from,
+    role_of, slots_of,
 };
 
 // How many words a record takes in the lent table.
@@ -32,20 +33,23 @@ pub struct Record {
     pub slots: Slots,
 }
 
+// Why a body has no records in the table: it is refused, or so many records do not fit (refusal 12).
 #[derive(Clone, Copy)]
-pub enum RecordAt {
-    Record(Record),
-    Nothing,
-}
-
-#[derive(Clone, Copy)]
-pub enum Decoded {
-    Records { count: usize, control: bool },
+pub enum DecodeError {
     Refused(Refusal),
     Room(usize),
 }
 
+impl From<Refusal> for DecodeError {
+    ghost from_gives = { λ why e. e ≡ Refused why };
+
+    fn from(refusal: Refusal) -> DecodeError {
+        DecodeError::Refused(refusal)
+    }
+}
+
 // The number that stands for a kind in the table.
+#[tactic(auto, unfolding(crate::specs::Rows::kind_code))]
 fn kind_code(kind: Kind) -> u64
     ensures { result ≡ kind_code kind }
 {
@@ -88,6 +92,7 @@ fn put_triple(table: &mut [u64], i: usize, a: u64, b: u64, c: u64) -> usize
     i + 3
 }
 
+#[tactic(auto, unfolding(crate::specs::Rows::number_words))]
 fn put_number(table: &mut [u64], i: usize, number: Number) -> usize
     requires { i + 2 ≤ length table.old }
     ensures value { result ≡ i + 2 }
@@ -99,6 +104,7 @@ fn put_number(table: &mut [u64], i: usize, number: Number) -> usize
     }
 }
 
+#[tactic(auto, unfolding(crate::specs::Rows::place_words))]
 fn put_place(table: &mut [u64], i: usize, place: Place) -> usize
     requires { i + 3 ≤ length table.old }
     ensures value { result ≡ i + 3 }
@@ -116,16 +122,11 @@ fn put_places(table: &mut [u64], i: usize, slots: Slots) -> usize
     ensures value { result ≡ i + 15 }
     ensures table_after { table.new ≡ sets table.old i (places_words slots) }
 {
-    let first = slots.first;
-    let second = slots.second;
-    let third = slots.third;
-    let fourth = slots.fourth;
-    let fifth = slots.fifth;
-    let a = put_place(table, i, first);
-    let b = put_place(table, a, second);
-    let c = put_place(table, b, third);
-    let d = put_place(table, c, fourth);
-    put_place(table, d, fifth)
+    let a = put_place(table, i, slots.first);
+    let b = put_place(table, a, slots.second);
+    let c = put_place(table, b, slots.third);
+    let d = put_place(table, c, slots.fourth);
+    put_place(table, d, slots.fifth)
 }
 
 // A record at a row of the table.
@@ -133,10 +134,7 @@ fn put_record(table: &mut [u64], row: usize, r: Record)
     requires { (row + 1) * 20 ≤ length table.old }
     ensures { table.new ≡ sets table.old (row * 20) (words_of r) }
 {
-    let kind = r.kind;
-    let slots = r.slots;
-    let number = slots.number;
-    let code = kind_code(kind);
+    let code = kind_code(r.kind);
     let a = put_triple(
         table,
         row * RECORD_WORDS,
@@ -144,8 +142,8 @@ fn put_record(table: &mut [u64], row: usize, r: Record)
         r.start as u64,
         r.end as u64,
     );
-    let b = put_number(table, a, number);
-    put_places(table, b, slots);
+    let b = put_number(table, a, r.slots.number);
+    put_places(table, b, r.slots);
 }
 
 // Writes the records of a field of a message whose bytes begin at base, from a row on; the row after them.
@@ -162,18 +160,12 @@ fn write_field(
     ensures value { result ≡ row + length (field_rows Mode.Groups kind base input.now f) }
     ensures table_after { table.new ≡ sets table.old (row * 20) (words_of_all (field_rows Mode.Groups kind base input.now f)) }
 {
-    let start = f.start;
-    let next = f.next;
-    let role = role_of(kind, f.field, f.wire_type);
-    match role {
-        Role::Skip => row,
-        Role::Number(_) => row,
-        Role::Text(_) => row,
-        Role::Bytes(_) => row,
+    let (start, next) = (f.start, f.next);
+    match role_of(kind, f.field, f.wire_type) {
+        Role::Skip | Role::Number(_) | Role::Text(_) | Role::Bytes(_) | Role::Unsigned(_) => row,
         Role::Topic => write_leaf(Kind::Topic, base + start, base + next, table, row),
         Role::MessageId => write_leaf(Kind::MessageId, base + start, base + next, table, row),
         Role::Sub(k, _) => write_message(&input[start..next], k, base + start, table, row),
-        Role::Unsigned(_) => row,
     }
 }
 
@@ -208,8 +200,7 @@ fn write_own(input: &[u8], kind: Kind, base: usize, table: &mut [u64], row: usiz
     ensures value { result ≡ row + length (own_rows Mode.Groups kind base input.now) }
     ensures table_after { table.new ≡ sets table.old (row * 20) (words_of_all (own_rows Mode.Groups kind base input.now)) }
 {
-    let o = own(kind);
-    if o == 0 {
+    if own(kind) == 0 {
         return row;
     }
     let slots = slots_of(Mode::Groups, input, kind);
@@ -235,25 +226,15 @@ fn write_message(input: &[u8], kind: Kind, base: usize, table: &mut [u64], row: 
 {
     let mut at: usize = 0;
     let mut next_row = write_own(input, kind, base, table, row);
-    while at < input.len() {
-        let step = read_field(Mode::Groups, input, at);
-        match step {
-            Step::End => {
-                return next_row;
-            }
-            Step::Refused(_) => {
-                return next_row;
-            }
-            Step::At(f) => {
-                next_row = write_field(input, kind, base, f, table, next_row);
-                at = f.next;
-            }
-        }
+    while let Ok(Some(f)) = read_field(Mode::Groups, input, at) {
+        next_row = write_field(input, kind, base, f, table, next_row);
+        at = f.next;
     }
     next_row
 }
 
 // Whether a body has a control: a length-delimited field 3.
+#[tactic(auto, unfolding(crate::specs::Decode::has_control))]
 pub fn has_control(mode: Mode, body: &[u8]) -> bool
     ensures { result ≡ has_control mode body.now }
 {
@@ -261,92 +242,64 @@ pub fn has_control(mode: Mode, body: &[u8]) -> bool
 }
 
 // Reads a body: its records go to the lent table, from its first row on. A refusal leaves the table as it was.
-pub fn decode(dialect: Dialect, body: &[u8], table: &mut [u64]) -> Decoded
+pub fn decode(
+    dialect: Dialect,
+    body: &[u8],
+    table: &mut [u64],
+) -> Result<(usize, bool), DecodeError>
     ensures { Leaves (decode_answer dialect body.now (length table.old))
         (decode_table dialect body.now table.old) result table.new }
 {
-    let edition = dialect.edition;
-    let c = body_records(dialect, body);
-    match c {
-        Tested::Refused(refusal) => Decoded::Refused(refusal),
-        Tested::Records(n) => {
-            if table.len() / RECORD_WORDS < n {
-                return Decoded::Room(n);
-            }
-            let control = has_control(Mode::Groups, body);
-            write_message(body, Kind::Rpc(edition), 0, table, 0);
-            Decoded::Records { count: n, control }
-        }
+    let n = body_records(dialect, body)?;
+    if table.len() / RECORD_WORDS < n {
+        return Err(DecodeError::Room(n));
     }
+    let control = has_control(Mode::Groups, body);
+    write_message(body, Kind::Rpc(dialect.edition), 0, table, 0);
+    Ok((n, control))
 }
 
 // The kind that a number in the table stands for. 0 and 4 are the codes of no record: there the edition is the first.
+#[tactic(auto, unfolding(crate::specs::Rows::kind_from))]
 fn kind_from(code: u64) -> Kind
     ensures { result ≡ kind_from code }
 {
-    if code == 1 {
-        return Kind::SubOpts;
+    match code {
+        1 => Kind::SubOpts,
+        2 => Kind::RawMessage,
+        3 => Kind::Topic,
+        4 => Kind::ControlMessage(Edition::V11),
+        5 => Kind::ControlIHave,
+        6 => Kind::ControlIWant,
+        7 => Kind::MessageId,
+        8 => Kind::ControlGraft,
+        9 => Kind::ControlPrune,
+        10 => Kind::PeerInfo,
+        11 => Kind::ControlIDontWant,
+        _ => Kind::Rpc(Edition::V11),
     }
-    if code == 2 {
-        return Kind::RawMessage;
-    }
-    if code == 3 {
-        return Kind::Topic;
-    }
-    if code == 4 {
-        return Kind::ControlMessage(Edition::V11);
-    }
-    if code == 5 {
-        return Kind::ControlIHave;
-    }
-    if code == 6 {
-        return Kind::ControlIWant;
-    }
-    if code == 7 {
-        return Kind::MessageId;
-    }
-    if code == 8 {
-        return Kind::ControlGraft;
-    }
-    if code == 9 {
-        return Kind::ControlPrune;
-    }
-    if code == 10 {
-        return Kind::PeerInfo;
-    }
-    if code == 11 {
-        return Kind::ControlIDontWant;
-    }
-    Kind::Rpc(Edition::V11)
 }
 
 // The record at a row of a table, for the host; nothing where the table has no such row.
-pub fn record_at(table: &[u64], row: usize) -> RecordAt
+#[tactic(auto, unfolding(crate::specs::Rows::record_at, crate::specs::Rows::record_from))]
+pub fn record_at(table: &[u64], row: usize) -> Option<Record>
     ensures { result ≡ record_at table.now row }
 {
     if table.len() / RECORD_WORDS <= row {
-        return RecordAt::Nothing;
+        return None;
     }
     let i = row * RECORD_WORDS;
-    let kind = kind_from(table[i]);
-    let number = number_from(table[i + 3], table[i + 4]);
-    let first = place_from(table[i + 5], table[i + 6], table[i + 7]);
-    let second = place_from(table[i + 8], table[i + 9], table[i + 10]);
-    let third = place_from(table[i + 11], table[i + 12], table[i + 13]);
-    let fourth = place_from(table[i + 14], table[i + 15], table[i + 16]);
-    let fifth = place_from(table[i + 17], table[i + 18], table[i + 19]);
-    let slots = Slots {
-        number,
-        first,
-        second,
-        third,
-        fourth,
-        fifth,
-    };
-    RecordAt::Record(Record {
-        kind,
+    Some(Record {
+        kind: kind_from(table[i]),
         start: table[i + 1] as usize,
         end: table[i + 2] as usize,
-        slots,
+        slots: Slots {
+            number: number_from(table[i + 3], table[i + 4]),
+            first: place_from(table[i + 5], table[i + 6], table[i + 7]),
+            second: place_from(table[i + 8], table[i + 9], table[i + 10]),
+            third: place_from(table[i + 11], table[i + 12], table[i + 13]),
+            fourth: place_from(table[i + 14], table[i + 15], table[i + 16]),
+            fifth: place_from(table[i + 17], table[i + 18], table[i + 19]),
+        },
     })
 }

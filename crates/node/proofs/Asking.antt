@@ -7,6 +7,7 @@ use native.Mathlib.Omega.{arith}
 use native.Mathlib.Nat.{zero-add, sub-zero}
 use lib.ListN.{length, drop, get_or, length-append}
 use lib.Seq.{sets, take-length}
+use Rattle.std.specs.Prelude.{Result, Ok, Err}
 use Rattle.basis.specs.declared.Mode.{Mode}
 use Rattle.basis.specs.declared.Edition.{Edition}
 use Rattle.basis.specs.Dialect.{mode_of, spoken}
@@ -17,8 +18,6 @@ use Rattle.rows.specs.Ids.{among}
 use Rattle.rows.specs.Store.{ids_in}
 use Rattle.peer_id.specs.Uvarint.{uvarint}
 use Rattle.protobuf.specs.declared.Refusal.{Refusal as Placed}
-use Rattle.protobuf.specs.declared.Checked.{Checked}
-use Rattle.protobuf.specs.declared.Checked.TheVariants as checked
 use Rattle.protobuf.specs.Walk.{between}
 use Rattle.protobuf.specs.Encode.{tag, bytes_field}
 use Rattle.protobuf.specs.EncodeLaws.{bytes_field-length}
@@ -30,11 +29,9 @@ use Rattle.node.specs.Parts.{part_at, parts_in, Parts, at_path, once, without}
 use Rattle.node.specs.PartsLaws.{length-parts, parts_from, parts-end, parts_more, parts-within_more, no-parts, parts_none}
 use Rattle.node.specs.State.{seen_ring}
 use Rattle.node.specs.declared.Node.{Node}
-use Rattle.node.specs.declared.Lent.{Lent}
-use Rattle.node.specs.declared.Lent.TheVariants as lent
-use Rattle.node.specs.declared.Fault.{Fault}
-use Rattle.node.specs.declared.Ask.{Ask}
-use Rattle.node.specs.declared.Ask.TheVariants as ask
+use Rattle.basis.specs.declared.Fault.{Fault}
+use Rattle.node.specs.declared.AskError.TheVariants as ask
+use Rattle.node.specs.declared.AskError.{AskError}
 use Rattle.node.specs.Gateway.{request}
 use Rattle.node.specs.Calls.{lent_of, bytes_for, offered, known_in, unseen_from, unseen_of, ask_bytes, asked, ask_answer, ask_left}
 use Rattle.node.proofs.Writes.{field_is}
@@ -82,7 +79,6 @@ module _ (t : List ℕ) (k a e : ℕ) (room : (k + 1) * 2 ≤ length t) (there :
 
 -- ---- the parts in `to`, and then those that f takes of the parts of `from` from i on, are all that f takes of `from`
 pub record Picked (f : List (List ℕ) → List (List ℕ)) (s from : List ℕ) (n : ℕ) (to : List ℕ) (k i : ℕ) : Type 0 where
-  pub most : i ≤ n
   pub fewer : k ≤ i
   pub parts : Parts s to k
   pub goes : parts_in s to k ++ f (drop i (parts_in s from n)) ≡ f (parts_in s from n)
@@ -90,7 +86,6 @@ pub record Picked (f : List (List ℕ) → List (List ℕ)) (s from : List ℕ) 
 pub picked_all : (f : List (List ℕ) → List (List ℕ)) (s from : List ℕ) (n : ℕ) (to : List ℕ) → Picked f s from n to 0 0
 picked_all f s from n to =
     record {
-      most = omega arith;
       fewer = omega arith;
       parts = parts_none s to;
       goes = ap (λ (l : List (List ℕ)). l ++ f (parts_in s from n)) (no-parts s to);
@@ -111,7 +106,6 @@ module _ (f : List (List ℕ) → List (List ℕ)) (s from : List ℕ) (n : ℕ)
       let w = p.within i h in
       let m = put-fewer to k a z room there r after er ea in
       record {
-        most = omega arith;
         fewer = omega arith;
         parts = put-within to k a z room there r after er ea s g.parts (λ y. w);
         goes =
@@ -119,13 +113,9 @@ module _ (f : List (List ℕ) → List (List ℕ)) (s from : List ℕ) (n : ℕ)
             (ap f (parts_from s from n i h) ∙ e) g.goes;
       }
 
-  pub picked_done : f [] ≡ [] → n ≤ i → (parts_in s to k ≡ f (parts_in s from n)) × (Parts s to k × (k ≤ n))
+  pub picked_done : f [] ≡ [] → n ≤ i → parts_in s to k ≡ f (parts_in s from n)
   picked_done e h =
-      let q = g.fewer in
-      let m = g.most in (
-        sym (ap (λ (l : List (List ℕ)). parts_in s to k ++ l) (ap f (parts-end s from n i h) ∙ e) ∙ append-nil (parts_in s to k)) ∙ g.goes,
-        (g.parts, omega arith),
-      )
+      sym (ap (λ (l : List (List ℕ)). parts_in s to k ++ l) (ap f (parts-end s from n i h) ∙ e) ∙ append-nil (parts_in s to k)) ∙ g.goes
 
 -- the ids that are not seen
 module _ (flags : ℕ) (seen : List (List ℕ)) where
@@ -236,7 +226,7 @@ bytes-none [] x h = refl
 bytes-none (i ∷ l) x h = absurd (omega arith)
 
 module _ (node : Node) (ss body out : List ℕ) where
-  abbrev Answers : Ask → List ℕ → Type 0
+  abbrev Answers : Result ℕ AskError → List ℕ → Type 0
   Answers r after = (r ≡ asked (answer (ask_bytes node ss body) out)) × (after ≡ written (ask_bytes node ss body) out)
 
   module _ (first named : List ℕ) (k m : ℕ) (f : parts_in body first k ≡ once (at_path (mode_of node.cache.flags) (3 ∷ 1 ∷ 2 ∷ []) body)) (u : parts_in body named m ≡ unseen_from node.cache.flags (ids_in 129 (seen_ring node) node.seen.len ss) (parts_in body first k)) where
@@ -251,7 +241,7 @@ module _ (node : Node) (ss body out : List ℕ) where
     unfolding ask_bytes
     bytes_are = ap (λ (l : List (List ℕ)). bytes_for l (request l)) lacking-is
 
-    pub ask-none : m ≡ 0 → Answers (ask.Bytes 0) out
+    pub ask-none : m ≡ 0 → Answers (Ok 0) out
     ask-none z =
         let e : ask_bytes node ss body ≡ [] = bytes_are ∙ bytes-none ids (request ids) (length-parts body named m ∙ z) in
         rw e (sym (ap asked (answer-fits [] out (omega arith))), sym (written-fits [] out (omega arith)))
@@ -263,36 +253,34 @@ module _ (node : Node) (ss body out : List ℕ) where
       measured : needed ≡ length (ask_bytes node ss body)
       measured = p.ends ∙ zero-add (length (encode_rpc (request ids))) ∙ sym (ap length ask-some)
 
-      pub ask-short : length out < needed → Answers (ask.Room needed) out
+      pub ask-short : length out < needed → Answers (Err (ask.Room needed)) out
       ask-short h =
           let l : length out < length (ask_bytes node ss body) = omega (arith, measured) in
-          (ap ask.Room measured ∙ sym (ap asked (answer-short (ask_bytes node ss body) out l)), sym (written-short (ask_bytes node ss body) out l))
+          (ap (λ (k : ℕ). Err (ask.Room k)) measured ∙ sym (ap asked (answer-short (ask_bytes node ss body) out l)), sym (written-short (ask_bytes node ss body) out l))
 
-      pub ask-put : needed ≤ length out → (last : List ℕ) (end : ℕ) → Puts out 0 (encode_rpc (request ids)) last end → Answers (ask.Bytes needed) last
+      pub ask-put : needed ≤ length out → (last : List ℕ) (end : ℕ) → Puts out 0 (encode_rpc (request ids)) last end → Answers (Ok needed) last
       ask-put h last end q =
           let l : length (ask_bytes node ss body) ≤ length out = omega (arith, measured) in
           let z = ap length ask-some in (
-            ap ask.Bytes measured ∙ sym (ap asked (answer-fits (ask_bytes node ss body) out l)),
+            ap Ok measured ∙ sym (ap asked (answer-fits (ask_bytes node ss body) out l)),
             q.holds (omega arith) ∙ ap (sets out 0) (sym ask-some) ∙ sym (written-fits (ask_bytes node ss body) out l),
           )
 
 -- ---- the whole call: the lent node and its stores, then the body
-module _ (node : Node) (ss cs : List ℕ) (ed : Edition) (body out : List ℕ) (l : Lent) (Lent-is : l ≡ lent_of node ss cs) where
-  abbrev Asks : Ask → List ℕ → Type 0
+module _ (node : Node) (ss cs : List ℕ) (ed : Edition) (body out : List ℕ) where
+  abbrev Asks : Result ℕ AskError → List ℕ → Type 0
   Asks r after = (r ≡ ask_answer node ss cs ed body out) × (after ≡ ask_left node ss cs ed body out)
 
-  pub asks-faulty : (why : Fault) → l ≡ lent.Faulty why → Asks (ask.Faulty why) out
+  pub asks-faulty : (why : Fault) → Err why ≡ lent_of node ss cs → Asks (Err (ask.Faulty why)) out
   unfolding ask_answer ask_left
-  asks-faulty why h = rw (sym Lent-is ∙ h) (refl, refl)
+  asks-faulty why e = rw (← e) (refl, refl)
 
-  module _ (fine : l ≡ lent.Fine) {mode : Mode} (same : mode ≡ mode_of node.cache.flags) (c : Checked) (body_is : c ≡ accept_of (spoken mode ed) body) where
-    taken_as : accept_of (spoken (mode_of node.cache.flags) ed) body ≡ c
-    taken_as = rw (← same) (sym body_is)
-
-    pub asks-refused : (why : Placed) → c ≡ checked.Refused why → Asks (ask.Refused why) out
+  module _ (fine : Ok tt ≡ lent_of node ss cs) {mode : Mode} (same : mode ≡ mode_of node.cache.flags) where
+    pub asks-refused : (why : Placed) → Err why ≡ accept_of (spoken mode ed) body → Asks (Err (ask.Refused why)) out
     unfolding ask_answer ask_left
-    asks-refused why h = rw (sym Lent-is ∙ fine, taken_as ∙ h) (refl, refl)
+    asks-refused why e = rw (← fine, ← same, ← e) (refl, refl)
 
-    pub asks-done : c ≡ checked.Fine → (r : Ask) (after : List ℕ) → r ≡ asked (answer (ask_bytes node ss body) out) → after ≡ written (ask_bytes node ss body) out → Asks r after
+    pub asks-done : Ok tt ≡ accept_of (spoken mode ed) body → (r : Result ℕ AskError) (after : List ℕ)
+        → r ≡ asked (answer (ask_bytes node ss body) out) → after ≡ written (ask_bytes node ss body) out → Asks r after
     unfolding ask_answer ask_left
-    asks-done h r after e f = rw (sym Lent-is ∙ fine, taken_as ∙ h) (e, f)
+    asks-done h r after e f = rw (← fine, ← same, ← h) (e, f)

@@ -9,6 +9,7 @@ use lib.ListN.{length, take, drop, get_or}
 use lib.Seq.{sets}
 use lib.Dec.{ltb}
 use borrow.Author.Tests.{lt-ltb, le-ltb, ltb-true}
+use Rattle.std.specs.Prelude.{true, Result, Ok, Err}
 use Rattle.basis.specs.declared.Mode.{Mode}
 use Rattle.basis.specs.declared.Edition.{Edition}
 use Rattle.basis.specs.declared.Edition.TheVariants.{V12}
@@ -21,8 +22,6 @@ use Rattle.rows.specs.Ids.{index_of}
 use Rattle.rows.specs.Store.{id_at, ids_in, Sound}
 use Rattle.rows.specs.StoreLaws.{row_fits}
 use Rattle.protobuf.specs.declared.Refusal.{Refusal as Placed}
-use Rattle.protobuf.specs.declared.Checked.{Checked}
-use Rattle.protobuf.specs.declared.Checked.TheVariants as checked
 use Rattle.protobuf.specs.Walk.{between}
 use Rattle.protobuf.specs.Encode.{bytes_field}
 use Rattle.rpc.specs.Encode.{repeated}
@@ -33,11 +32,10 @@ use Rattle.node.specs.PartsLaws.{length-parts, parts_from, parts-end, parts-take
 use Rattle.mcache.specs.declared.MessageCache.{MessageCache}
 use Rattle.mcache.specs.State.{message_in, Usable, ring_of}
 use Rattle.node.specs.declared.Node.{Node}
-use Rattle.node.specs.declared.Lent.{Lent}
-use Rattle.node.specs.declared.Lent.TheVariants as lent
-use Rattle.node.specs.declared.Fault.{Fault}
-use Rattle.node.specs.declared.Serve.{Serve}
-use Rattle.node.specs.declared.Serve.TheVariants as serve
+use Rattle.basis.specs.declared.Fault.{Fault}
+use Rattle.node.specs.declared.Reply.{Reply as Counts}
+use Rattle.node.specs.declared.ServeError.TheVariants as serve
+use Rattle.node.specs.declared.ServeError.{ServeError}
 use Rattle.node.specs.Calls.{lent_of, when_taken, wanted, unwanted_in, remaining, rows_for, cached_of, room_of, served_of, reply_bytes, reply_to, serve_on, serve_answer, serve_left}
 use Rattle.node.specs.ReplyLaws as reply
 use Rattle.node.proofs.Asking.{put-fewer, put-within, put-goes}
@@ -60,7 +58,6 @@ module _ (lens : List ℕ) (ring : Ring) (row : ℕ) (t : List ℕ) (n : ℕ) wh
 
 -- ---- the messages in `to`, and then those that are cached of the ids in `from` from i on, are all of them
 pub record Found (lens : List ℕ) (ring : Ring) (held : List (List ℕ)) (s from : List ℕ) (n : ℕ) (to : List ℕ) (k i : ℕ) : Type 0 where
-  pub most : i ≤ n
   pub fewer : k ≤ i
   pub parts : (cs : List ℕ) → length cs ≡ ring.cap * 4096 → Parts cs to k
   pub goes : (cs : List ℕ) → parts_in cs to k ++ map (message_in lens cs) (rows_for ring held (drop i (parts_in s from n))) ≡ map (message_in lens cs) (rows_for ring held (parts_in s from n))
@@ -68,7 +65,6 @@ pub record Found (lens : List ℕ) (ring : Ring) (held : List (List ℕ)) (s fro
 pub found_all : (lens : List ℕ) (ring : Ring) (held : List (List ℕ)) (s from : List ℕ) (n : ℕ) (to : List ℕ) → Found lens ring held s from n to 0 0
 found_all lens ring held s from n to =
     record {
-      most = omega arith;
       fewer = omega arith;
       parts = λ cs h. parts_none cs to;
       goes = λ cs. ap (λ (l : List (List ℕ)). l ++ map (message_in lens cs) (rows_for ring held (parts_in s from n))) (no-parts cs to);
@@ -110,7 +106,6 @@ module _ (lens : List ℕ) (ring : Ring) (ilens store s from : List ℕ) (n : �
       let z = p * 4096 + get_or lens p 0 in
       let m = put-fewer to k a z room (ltb row ring.count) r after er ea in
       record {
-        most = omega arith;
         fewer = omega arith;
         parts = λ cs l. put-within to k a z room (ltb row ring.count) r after er ea cs (g.parts cs l)
             (λ y. let q = ltb-true row ring.count y in
@@ -123,14 +118,10 @@ module _ (lens : List ℕ) (ring : Ring) (ilens store s from : List ℕ) (n : �
             (g.goes cs);
       }
 
-  pub found-done : n ≤ i → ((cs : List ℕ) → parts_in cs to k ≡ map (message_in lens cs) (rows_for ring held (parts_in s from n))) × (((cs : List ℕ) → length cs ≡ ring.cap * 4096 → Parts cs to k) × (k ≤ n))
+  pub found-done : n ≤ i → (cs : List ℕ) → parts_in cs to k ≡ map (message_in lens cs) (rows_for ring held (parts_in s from n))
   unfolding rows_for
-  found-done h =
-      let f = g.fewer in
-      let m = g.most in (
-        (λ cs. sym (ap (λ (l : List (List ℕ)). parts_in cs to k ++ map (message_in lens cs) (rows_for ring held l)) (parts-end s from n i h) ∙ append-nil (parts_in cs to k)) ∙ g.goes cs),
-        (g.parts, omega arith),
-      )
+  found-done h cs =
+      sym (ap (λ (l : List (List ℕ)). parts_in cs to k ++ map (message_in lens cs) (rows_for ring held l)) (parts-end s from n i h) ∙ append-nil (parts_in cs to k)) ∙ g.goes cs
 
 -- ---- the cached messages that a body asks for
 pub kept-size : (c : MessageCache) (cs : List ℕ) → Usable c cs → length cs ≤ 262144
@@ -151,20 +142,20 @@ messages_are c cs body second named found r m f u =
 
 -- ---- the reply to them, where they are the m parts of a store that a table has
 module _ (ms : List (List ℕ)) (out : List ℕ) where
-  abbrev pub Replies : Serve → List ℕ → Type 0
+  abbrev pub Replies : Result Counts ServeError → List ℕ → Type 0
   Replies r after = (r ≡ reply_to ms out) × (after ≡ sets out 0 (reply_bytes ms out))
 
-no-reply : (l : List (List ℕ)) (out : List ℕ) → length l ≡ 0 → Replies l out (serve.Reply 0 0 0) out
+no-reply : (l : List (List ℕ)) (out : List ℕ) → length l ≡ 0 → Replies l out (Ok (record { bytes = 0; messages = 0; left = 0 })) out
 unfolding reply_bytes served_of fitting
 no-reply [] out h = (refl, refl)
 no-reply (x ∷ l) out h = absurd (omega arith)
 
 -- the first does not fit
-first_short : (l : List (List ℕ)) (out : List ℕ) → served_of l out ≡ 0 → (length l ≡ 0 → ⊥) → (needed : ℕ) → needed ≡ length (repeated (bytes_field 2) (take 1 l)) → Replies l out (serve.Room needed) out
+first_short : (l : List (List ℕ)) (out : List ℕ) → served_of l out ≡ 0 → (length l ≡ 0 → ⊥) → (needed : ℕ) → needed ≡ length (repeated (bytes_field 2) (take 1 l)) → Replies l out (Err (serve.Room needed)) out
 first_short [] out z h needed e = absurd (h refl)
-first_short (x ∷ l) out z h needed e = rw (reply.reply-short x l out z, reply.reply_bytes_lem (x ∷ l) out, z) (ap serve.Room (e ∙ ap length (append-nil (bytes_field 2 x))), refl)
+first_short (x ∷ l) out z h needed e = rw (reply.reply-short x l out z, reply.reply_bytes_lem (x ∷ l) out, z) (ap (λ (k : ℕ). Err (serve.Room k)) (e ∙ ap length (append-nil (bytes_field 2 x))), refl)
 
-some_fit : (l : List (List ℕ)) (out : List ℕ) → (length l ≡ 0 → ⊥) → (served_of l out ≡ 0 → ⊥) → serve.Reply (length (reply_bytes l out)) (served_of l out) (length l - served_of l out) ≡ reply_to l out
+some_fit : (l : List (List ℕ)) (out : List ℕ) → (length l ≡ 0 → ⊥) → (served_of l out ≡ 0 → ⊥) → Ok (record { bytes = length (reply_bytes l out); messages = served_of l out; left = length l - served_of l out }) ≡ reply_to l out
 some_fit [] out h n = absurd (h refl)
 some_fit (x ∷ l) out h n = sym (reply.reply-some x l out n)
 
@@ -172,7 +163,7 @@ module _ (ms : List (List ℕ)) (cs t : List ℕ) (m : ℕ) (out : List ℕ) (q 
   many : length ms ≡ m
   many = ap length q ∙ length-parts cs t m
 
-  pub reply-none : m ≡ 0 → Replies ms out (serve.Reply 0 0 0) out
+  pub reply-none : m ≡ 0 → Replies ms out (Ok (record { bytes = 0; messages = 0; left = 0 })) out
   reply-none z = no-reply ms out (many ∙ z)
 
   module _ (some : m ≡ 0 → ⊥) where
@@ -187,7 +178,7 @@ module _ (ms : List (List ℕ)) (cs t : List ℕ) (m : ℕ) (out : List ℕ) (q 
       unfolding served_of room_of
       served-is = sym (ew ∙ ap (λ (n : ℕ). fitting 2 n (parts_in cs t m)) er ∙ ap (fitting 2 (min (length out) 65536)) (sym q))
 
-      pub reply-short : w ≡ 0 → (none after : List ℕ) (needed : ℕ) → Puts none 0 (repeated (bytes_field 2) (parts_in cs t 1)) after needed → Replies ms out (serve.Room needed) out
+      pub reply-short : w ≡ 0 → (none after : List ℕ) (needed : ℕ) → Puts none 0 (repeated (bytes_field 2) (parts_in cs t 1)) after needed → Replies ms out (Err (serve.Room needed)) out
       reply-short z none after needed p =
           first_short ms out (served-is ∙ z) not_none needed
           (p.ends
@@ -195,7 +186,7 @@ module _ (ms : List (List ℕ)) (cs t : List ℕ) (m : ℕ) (out : List ℕ) (q 
           ∙ ap (λ (l : List (List ℕ)). length (repeated (bytes_field 2) l)) (sym (ap (take 1) q ∙ parts-take cs t 1 m one-part)))
 
       -- those that fit
-      pub reply-put : (w ≡ 0 → ⊥) → w ≤ m → (after : List ℕ) (end : ℕ) → Puts out 0 (repeated (bytes_field 2) (parts_in cs t w)) after end → Replies ms out (serve.Reply end w (m - w)) after
+      pub reply-put : (w ≡ 0 → ⊥) → w ≤ m → (after : List ℕ) (end : ℕ) → Puts out 0 (repeated (bytes_field 2) (parts_in cs t w)) after end → Replies ms out (Ok (record { bytes = end; messages = w; left = m - w })) after
       reply-put n l after end p =
           let b : repeated (bytes_field 2) (parts_in cs t w) ≡ reply_bytes ms out = rw (reply.reply_bytes_lem ms out, served-is) (ap (repeated (bytes_field 2)) (sym (ap (take w) q ∙ parts-take cs t w m l))) in
           let f : length (repeated (bytes_field 2) (parts_in cs t w)) ≤ room = rw (← (parts-take cs t w m l), ew) (fitting-room 2 room (parts_in cs t m)) in
@@ -204,38 +195,29 @@ module _ (ms : List (List ℕ)) (cs t : List ℕ) (m : ℕ) (out : List ℕ) (q 
             p.holds (omega arith) ∙ ap (sets out 0) b,
           )
 
--- ---- the second body, which is read in 1.2
-module _ (given : Mode) (ms : List (List ℕ)) (second out : List ℕ) where
-  abbrev pub Tried : Serve → List ℕ → Type 0
-  Tried r after = (r ≡ serve_on (reply_to ms out) (accept_of (spoken given V12) second)) × (after ≡ when_taken (accept_of (spoken given V12) second) (sets out 0 (reply_bytes ms out)) out)
-
-  module _ {mode : Mode} (same : mode ≡ given) (c : Checked) (second_is : c ≡ accept_of (spoken mode V12) second) where
-    second_as : accept_of (spoken given V12) second ≡ c
-    second_as = rw (← same) (sym second_is)
-
-    pub tried_refused : (why : Placed) → c ≡ checked.Refused why → Tried (serve.Refused why) out
-    tried_refused why h = rw (second_as ∙ h) (refl, refl)
-
-    pub tried_done : c ≡ checked.Fine → (r : Serve) (after : List ℕ) → Replies ms out r after → Tried r after
-    tried_done h r after e = rw (second_as ∙ h) e
-
--- ---- the whole call: the lent node and its stores, then the bodies
-module _ (node : Node) (ss cs : List ℕ) (ed : Edition) (body second out : List ℕ) (l : Lent) (Lent-is : l ≡ lent_of node ss cs) where
-  abbrev Serves : Serve → List ℕ → Type 0
+-- ---- the whole call: the lent node and its stores, then the bodies, the second in 1.2
+module _ (node : Node) (ss cs : List ℕ) (ed : Edition) (body second out : List ℕ) where
+  abbrev Serves : Result Counts ServeError → List ℕ → Type 0
   Serves r after = (r ≡ serve_answer node ss cs ed body second out) × (after ≡ serve_left node ss cs ed body second out)
 
-  pub serves-faulty : (why : Fault) → l ≡ lent.Faulty why → Serves (serve.Faulty why) out
+  pub serves-faulty : (why : Fault) → Err why ≡ lent_of node ss cs → Serves (Err (serve.Faulty why)) out
   unfolding serve_answer serve_left
-  serves-faulty why h = rw (sym Lent-is ∙ h) (refl, refl)
+  serves-faulty why e = rw (← e) (refl, refl)
 
-  module _ (fine : l ≡ lent.Fine) {mode : Mode} (same : mode ≡ mode_of node.cache.flags) (c : Checked) (body_is : c ≡ accept_of (spoken mode ed) body) where
-    body_as : accept_of (spoken (mode_of node.cache.flags) ed) body ≡ c
-    body_as = rw (← same) (sym body_is)
-
-    pub serves-refused : (why : Placed) → c ≡ checked.Refused why → Serves (serve.Refused why) out
+  module _ (fine : Ok tt ≡ lent_of node ss cs) {mode : Mode} (same : mode ≡ mode_of node.cache.flags) where
+    pub serves-refused : (why : Placed) → Err why ≡ accept_of (spoken mode ed) body → Serves (Err (serve.Refused why)) out
     unfolding serve_answer serve_left
-    serves-refused why h = rw (sym Lent-is ∙ fine, body_as ∙ h) (refl, refl)
+    serves-refused why e = rw (← fine, ← same, ← e) (refl, refl)
 
-    pub serves-done : c ≡ checked.Fine → (r : Serve) (after : List ℕ) → Tried (mode_of node.cache.flags) (cached_of node.cache cs (remaining (mode_of node.cache.flags) body second)) second out r after → Serves r after
-    unfolding serve_answer serve_left
-    serves-done h r after e = rw (sym Lent-is ∙ fine, body_as ∙ h) e
+    module _ (ok : Ok tt ≡ accept_of (spoken mode ed) body) where
+      pub serves-declined : (why : Placed) → Err why ≡ accept_of (spoken mode V12) second → Serves (Err (serve.Refused why)) out
+      unfolding serve_answer serve_left
+      serves-declined why e = rw (← fine, ← same, ← ok, ← e) (refl, refl)
+
+      pub serves-done : Ok tt ≡ accept_of (spoken mode V12) second → (r : Result Counts ServeError) (after : List ℕ)
+          → Replies (cached_of node.cache cs (remaining (mode_of node.cache.flags) body second)) out r after → Serves r after
+      unfolding serve_answer serve_left
+      serves-done e r after w =
+          let body_is : accept_of (spoken (mode_of node.cache.flags) ed) body ≡ Ok tt = rw same at (sym ok) in
+          let second_is : accept_of (spoken (mode_of node.cache.flags) V12) second ≡ Ok tt = rw same at (sym e) in
+          rw (← fine, body_is, second_is) w

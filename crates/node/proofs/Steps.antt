@@ -1,16 +1,28 @@
 -- The steps of the leaves: the walk over the expiries, and the marked form of an id in a key.
-use Prim.Native.Nat.{ℕ, suc, ◌+◌, ◌*◌, ◌≤◌, ◌<◌}
-use mathlib.Core.Path.{◌≡◌, sym, ap, ◌∙◌}
-use mathlib.Core.List.{List, [], ◌∷◌}
+use Prim.Native.Nat.{ℕ, zero, suc, ◌+◌, ◌*◌, ◌≤◌, ◌<◌}
+use mathlib.Core.Path.{◌≡◌, refl, sym, ap, subst, ◌∙◌}
+use mathlib.Core.List.{List, [], ◌∷◌, map}
 use mathlib.Core.Bool.{Bool, true, false, not}
 use native.Mathlib.Omega.{arith}
+use native.Mathlib.Numerals.{add-one}
 use lib.ListN.{length, take, drop, get_or, set, length-take, length-set}
 use lib.Seq.{sets, sets-eq, take_at, take-suc-set}
-use lib.Dec.{ltb}
+use lib.Dec.{ltb, leb}
 use borrow.Author.Tests.{le-leb, lt-leb}
+use Rattle.std.specs.Prelude.{Some}
+use Rattle.std.specs.Bool.{OnTrue, IsTrue}
+use Rattle.std.specs.declared.ops.Range.{Range}
+use Rattle.std.specs.List.{IsAllAdjacentAnswer}
+use Rattle.std.specs.Iterator.Runs.{Run}
+use Rattle.std.proofs.iter.Yields.{nat_range_steps}
+use Rattle.std.proofs.iter.runs.Sources.{range_runs}
+use Rattle.std.specs.Ordering.{nat_cmp, is_le, is_some_and}
+use Rattle.std.proofs.lemmas.List.{get_or-map, length-map}
+use Rattle.std.proofs.lemmas.List.Sorted.{non_decreasing_from_is_sorted}
+use Rattle.basis.specs.Cases.{either}
 use Rattle.rows.specs.declared.Ring.{Ring}
 use Rattle.rows.specs.Rows.{tab, place_of, rows_in}
-use Rattle.rows.specs.RowsLaws.{length-tab, get_d_tab, ring_from, ring_end}
+use Rattle.rows.specs.RowsLaws.{length-tab, get_d_tab}
 use Rattle.rows.specs.Ids.{among, index_of}
 use Rattle.rows.specs.IdsLaws.{none-among}
 use Rattle.rows.specs.Store.{in_use, id_at, ids_in, Sound}
@@ -21,21 +33,59 @@ use Rattle.node.specs.Gateway.{marked}
 use Rattle.node.specs.State.{rises_from}
 use Rattle.node.specs.Calls.{known_in}
 
--- ---- expiries
-module _ (ring : Ring) (l : List ℕ) (last i : ℕ) (inv : rises_from last (drop i (in_use ring l)) ≡ rises_from 0 (in_use ring l)) where
-  pub rises-more : (e : ℕ) → i < ring.count → e ≡ get_or l (place_of ring i) 0 → last ≤ e → rises_from e (drop (i + 1) (in_use ring l)) ≡ rises_from 0 (in_use ring l)
-  unfolding rises_from in_use
-  rises-more e h q k =
-      rw q (simp (le-leb last (get_or l (place_of ring i) 0) (rw (sym q) k)) at (rw (ring_from (λ (p : ℕ). get_or l p 0) ring i h) at inv))
+-- ---- expiries: a list rises where no number in it is below the one before
+rises-tab : (f : ℕ → ℕ) (n least : ℕ) → (0 < n → least ≤ f 0) → ((k : ℕ) → suc k < n → f k ≤ f (suc k)) → rises_from least (tab f n) ≡ true
+unfolding rises_from
+rises-tab f zero least h up = refl
+rises-tab f (suc n) least h up =
+    simp (le-leb least (f 0) (h (omega arith)))
+    (rises-tab (λ (i : ℕ). f (suc i)) n (f 0) (λ l. up 0 (omega arith)) (λ k l. up (suc k) (omega arith)))
 
-  pub rises-not : (e : ℕ) → i < ring.count → e ≡ get_or l (place_of ring i) 0 → e < last → false ≡ rises_from 0 (in_use ring l)
-  unfolding rises_from in_use
-  rises-not e h q k =
-      simp (lt-leb last (get_or l (place_of ring i) 0) (rw (sym q) k)) at (rw (ring_from (λ (p : ℕ). get_or l p 0) ring i h) at inv)
+falls-tab : (f : ℕ → ℕ) (n least k : ℕ) → suc k < n → f (suc k) < f k → rises_from least (tab f n) ≡ false
+unfolding rises_from
+falls-tab f zero least k h g = absurd (omega arith)
+falls-tab f (suc zero) least k h g = absurd (omega arith)
+falls-tab f (suc (suc n)) least zero h g = either (leb least (f 0)) (λ t. simp (t, lt-leb (f 0) (f 1) g)) (λ t. simp t)
+falls-tab f (suc (suc n)) least (suc k) h g =
+    let z = falls-tab (λ (i : ℕ). f (suc i)) (suc n) (f 0) k (omega arith) g in
+    either (leb least (f 0)) (λ t. simp t z) (λ t. simp t)
 
-  pub rises-all : ring.count ≤ i → true ≡ rises_from 0 (in_use ring l)
-  unfolding rises_from in_use
-  rises-all h = rw (ring_end (λ (p : ℕ). get_or l p 0) ring i h) at inv
+-- what `is_sorted_by_key` says of the first rows, which are all of them where it answers true
+module _ (ring : Ring) (l : List ℕ) where
+  abbrev pub expiry_at : ℕ → ℕ
+  expiry_at i = get_or l (place_of ring i) 0
+
+  abbrev pub IsSorted : List ℕ → Bool → Type 0
+  IsSorted rows r = IsAllAdjacentAnswer (λ x y b. is_some_and is_le (Some (nat_cmp x y)) ≡ b) (map expiry_at rows) r
+
+  module _ (rows : List ℕ) (are : (k : ℕ) → k < length rows → get_or rows k 0 ≡ k) where
+    row-expiry : (k : ℕ) → k < length rows → get_or (map expiry_at rows) k 0 ≡ expiry_at k
+    row-expiry k h = get_or-map expiry_at rows k 0 0 h ∙ ap expiry_at (are k h)
+
+    rises-sorted : (r : Bool) → length rows ≤ ring.count → (r ≡ true → length rows ≡ ring.count) → IsSorted rows r → r ≡ rises_from 0 (in_use ring l)
+    unfolding in_use rows_in
+    rises-sorted true few all s =
+        let z = all refl in
+        let up = non_decreasing_from_is_sorted (map expiry_at rows) true s in
+        sym (rises-tab expiry_at ring.count 0 (λ g. omega arith)
+        (λ k g. omega (arith, row-expiry k (omega arith), row-expiry (suc k) (omega arith), up k (suc k) 0 (omega arith) (omega (arith, length-map rows expiry_at)))))
+    rises-sorted false few all s =
+        let d = non_decreasing_from_is_sorted (map expiry_at rows) false s in
+        let g : d.0 + 1 < length rows = omega (arith, d.1, length-map rows expiry_at) in
+        sym (falls-tab expiry_at ring.count 0 d.0 (omega arith)
+        (omega (arith, row-expiry d.0 (omega arith), row-expiry (d.0 + 1) g, ap expiry_at (add-one d.0), d.2 0)))
+
+  pub rises-run : (r : Bool) (p : Run nat_range_steps) → p.from ≡ record { start = 0; end = ring.count } → OnTrue r (IsTrue p.whole) → IsSorted p.items r
+      → r ≡ rises_from 0 (in_use ring l)
+  rises-run r p from whole s =
+      let up = range_runs p p.seen in
+      let a : p.from.start ≡ 0 = ap (λ (x : Range ℕ). x.start) from in
+      let z : p.from.end ≡ ring.count = ap (λ (x : Range ℕ). x.end) from in
+      rises-sorted p.items
+      (λ k h. let e : get_or p.items k 0 ≡ p.from.start + k = cc (p.reads k 0 (omega (arith, p.long)), up.3 k (omega (arith, p.long))) in omega arith)
+      r (omega (arith, up.0, p.long))
+      (λ e. let w : p.whole ≡ true = subst (λ (b : Bool). OnTrue b (IsTrue p.whole)) e whole in omega (arith, up.1 w, p.long))
+      s
 
 -- ---- the marked form of an id, at the front of a key
 module _ (signed : Bool) (c : ℕ) (first id key : List ℕ) (n : ℕ) (z : length first ≡ 129) (k : n ≡ length id) (h : length id ≤ 128) (m : c ≡ mark signed)

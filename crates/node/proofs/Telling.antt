@@ -5,6 +5,7 @@ use mathlib.Core.List.{List, [], ◌∷◌, map}
 use native.Mathlib.Omega.{arith}
 use lib.ListN.{length, take, drop, get_or, replicate, length-take, length-map, length-append}
 use lib.Seq.{take_at, get_or-take}
+use Rattle.std.specs.Prelude.{Ok, Err}
 use Rattle.basis.specs.Writing.{answer, written}
 use Rattle.basis.specs.Lists.{answer-fits, answer-short, written-fits, written-short}
 use Rattle.rows.specs.Rows.{place_of, rows_in}
@@ -18,7 +19,7 @@ use Rattle.mcache.specs.State.{Usable, Listed, told, ring_of, table_of}
 use Rattle.mcache.specs.Calls.{gossip_list, gossip_array}
 use Rattle.mcache.specs.GatherLaws.{Each, each-rest, each-gather, length-gather}
 use Rattle.node.specs.declared.Node.{Node}
-use Rattle.node.specs.declared.Advertise.TheVariants as advertise
+use Rattle.node.specs.declared.AdvertiseError.TheVariants as advertise
 use Rattle.node.specs.Gateway.{advertisement}
 use Rattle.node.specs.Calls.{told_in, bytes_for, advertise_bytes, advertised}
 use Rattle.node.specs.WireLaws.{advertisement-most}
@@ -118,7 +119,7 @@ module _ (g : Node) (cs topic : List ℕ) (windows : ℕ) (ok : Usable g.cache c
       (bytes-some (map (id_at 128 g.cache.id_len g.cache.ids) (gossip_list g.cache cs topic windows)) _ (λ e. z (omega arith)))
 
   -- no ids, no bytes
-  pub tell_none : n ≡ 0 → (advertise.Bytes 0 ≡ advertised (answer bytes out)) × (out ≡ written bytes out)
+  pub tell_none : n ≡ 0 → (Ok 0 ≡ advertised (answer bytes out)) × (out ≡ written bytes out)
   tell_none z = (rw (none_told z, answer-fits [] out (omega arith)), rw (none_told z, written-fits [] out (omega arith)))
 
   -- measured: the room is short, or the bytes are written
@@ -126,16 +127,16 @@ module _ (g : Node) (cs topic : List ℕ) (windows : ℕ) (ok : Usable g.cache c
     needed-is : needed ≡ length bytes
     needed-is = let e = ap length (some-told z) in omega (arith, m.ends)
 
-    pub tell_short : length out < needed → (advertise.Room needed ≡ advertised (answer bytes out)) × (out ≡ written bytes out)
+    pub tell_short : length out < needed → (Err (advertise.Room needed) ≡ advertised (answer bytes out)) × (out ≡ written bytes out)
     tell_short k =
         let e = needed-is in
         let l : length out < length bytes = omega arith in
-        (rw (answer-short bytes out l) (ap advertise.Room e), sym (written-short bytes out l))
+        (rw (answer-short bytes out l) (ap (λ (k : ℕ). Err (advertise.Room k)) e), sym (written-short bytes out l))
 
     pub tell_put : needed ≤ length out → (o : List ℕ) (end : ℕ) → Puts out 0 (encode_rpc (advertisement topic (map (id_at 128 g.cache.id_len g.cache.ids) (take n rows)))) o end
-        → (advertise.Bytes needed ≡ advertised (answer bytes out)) × (o ≡ written bytes out)
+        → (Ok needed ≡ advertised (answer bytes out)) × (o ≡ written bytes out)
     tell_put k o end p =
         let e = needed-is in
         let l : length bytes ≤ length out = omega arith in
         let b = ap length (some-told z) in
-        (rw (answer-fits bytes out l) (ap advertise.Bytes e), rw (written-fits bytes out l, some-told z) (p.holds (omega arith)))
+        (rw (answer-fits bytes out l) (ap Ok e), rw (written-fits bytes out l, some-told z) (p.holds (omega arith)))

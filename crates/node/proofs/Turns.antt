@@ -1,20 +1,23 @@
 -- One turn of each loop over plain variables: a part more written, a part more that fits, a field more at a path, a part more that was or was not
 -- mentioned.
-use Prim.Native.Nat.{ℕ, ◌+◌, ◌-◌, ◌*◌, ◌^◌, ◌≤◌, ◌<◌}
-use mathlib.Core.Path.{◌≡◌, sym, ap, ap₂, ◌∙◌}
+use Prim.Native.Nat.{ℕ, zero, suc, ◌+◌, ◌-◌, ◌*◌, ◌^◌, ◌≤◌, ◌<◌}
+use mathlib.Core.Path.{◌≡◌, refl, sym, ap, ap₂, ◌∙◌}
 use mathlib.Core.List.{List, [], ◌∷◌, ◌++◌, append_assoc, append-nil}
-use mathlib.Core.Bool.{Bool, true, false}
+use mathlib.Core.Bool.{Bool, true, false, not}
 use native.Mathlib.Omega.{arith}
 use lib.ListN.{length, take, drop, get_or, length-append, length-drop}
 use lib.Seq.{sets, take_all}
 use borrow.Author.Tests.{eq-eqb, ne_eqb}
+use Rattle.std.specs.Prelude.{Ok, Some}
 use Rattle.basis.specs.declared.Mode.{Mode}
+use Rattle.std.specs.List.{range_with_len, list_all}
+use Rattle.basis.specs.Cases.{either}
+use Rattle.rows.specs.Rows.{tab}
 use Rattle.rows.specs.Ids.{same_bytes, among}
 use Rattle.rows.specs.IdsLaws.{among-more, among-here, among_none}
 use Rattle.peer_id.specs.Uvarint.{uvarint}
 use Rattle.peer_id.specs.Laws.{at_most_ten}
 use Rattle.protobuf.specs.declared.Field.{Field}
-use Rattle.protobuf.specs.declared.Step.TheVariants as step
 use Rattle.protobuf.specs.Field.{read_field}
 use Rattle.protobuf.specs.Walk.{between, value_in}
 use Rattle.schema.specs.Count.{FieldWithin}
@@ -63,13 +66,12 @@ module _ (n : ℕ) (s t : List ℕ) (m i : ℕ) (p : Parts s t m) (h : i < m) wh
 pub write_done : (n : ℕ) (s t : List ℕ) (m i : ℕ) → m ≤ i → repeated (bytes_field n) (drop i (parts_in s t m)) ≡ []
 write_done n s t m i h = ap (repeated (bytes_field n)) (parts-end s t m i h)
 
-pub fit-done : (n : ℕ) (s t : List ℕ) (m i room left : ℕ) → m ≤ i → fitting n room (parts_in s t m) ≡ i + fitting n left (drop i (parts_in s t m)) → i ≡ fitting n room (parts_in s t m)
+pub fit-done : (n : ℕ) (s t : List ℕ) (m i room left : ℕ) → m ≤ i → i ≤ m → fitting n room (parts_in s t m) ≡ i + fitting n left (drop i (parts_in s t m)) → m ≡ fitting n room (parts_in s t m)
 unfolding fitting
-fit-done n s t m i room left h inv = let e = ap (fitting n left) (parts-end s t m i h) in omega arith
+fit-done n s t m i room left h l inv = let e = ap (fitting n left) (parts-end s t m i h) in omega arith
 
 -- ---- the parts in `to`, and then those of `from` from i on that are not among them, are all of `from` once
 pub record Named (s from : List ℕ) (n : ℕ) (to : List ℕ) (k i : ℕ) : Type 0 where
-  pub most : i ≤ n
   pub fewer : k ≤ i
   pub parts : Parts s to k
   pub goes : parts_in s to k ++ once_after (parts_in s to k) (drop i (parts_in s from n)) ≡ once (parts_in s from n)
@@ -77,7 +79,6 @@ pub record Named (s from : List ℕ) (n : ℕ) (to : List ℕ) (k i : ℕ) : Typ
 pub named-all : (s from : List ℕ) (n : ℕ) (to : List ℕ) → Named s from n to 0 0
 named-all s from n to =
     record {
-      most = omega arith;
       fewer = omega arith;
       parts = parts_none s to;
       goes = ap (λ (l : List (List ℕ)). l ++ once_after l (parts_in s from n)) (no-parts s to);
@@ -96,7 +97,6 @@ module _ (s from : List ℕ) (n : ℕ) (to : List ℕ) (k i : ℕ) (g : Named s 
     named_again e =
         let f = g.fewer in
         record {
-          most = omega arith;
           fewer = omega arith;
           parts = g.parts;
           goes =
@@ -115,7 +115,6 @@ module _ (s from : List ℕ) (n : ℕ) (to : List ℕ) (k i : ℕ) (g : Named s 
         let x = parts_more to k a z room s in
         rw (er, ea)
         record {
-          most = omega arith;
           fewer = omega arith;
           parts = parts-within_more to k a z room s g.parts w.0 w.1;
           goes =
@@ -136,6 +135,22 @@ module _ (x s t : List ℕ) (k j : ℕ) (inv : among x (drop j (parts_in s t k))
 
   pub look_none : k ≤ j → among x (parts_in s t k) ≡ false
   look_none h = sym (among_none x (drop j (parts_in s t k)) (among x (parts_in s t k)) (parts-end s t k j h) inv)
+
+-- the test of each part by its number is that of the part
+abbrev pub is_other : List ℕ → List ℕ → List ℕ → ℕ → Bool
+is_other x s t i = not (same_bytes (part_at s t i) x)
+
+others : (x : List ℕ) (f g : ℕ → List ℕ) (a n : ℕ) → ((i : ℕ) → g i ≡ f (a + i)) → list_all (λ i. not (same_bytes (f i) x)) (range_with_len a n) ≡ not (among x (tab g n))
+unfolding among
+others x f g a zero e = refl
+others x f g a (suc n) e =
+    let h = others x f (λ (i : ℕ). g (suc i)) (a + 1) n (λ i. e (suc i) ∙ ap f {x = a + suc i} {y = (a + 1) + i} (omega arith)) in
+    let z : f a ≡ g 0 = sym (e 0 ∙ ap f {x = a + 0} {y = a} (omega arith)) in
+    rw z (either (same_bytes (g 0) x) (λ t. simp t) (λ t. simp t h))
+
+pub all-others : (x s t : List ℕ) (n : ℕ) → list_all (is_other x s t) (range_with_len 0 n) ≡ not (among x (parts_in s t n))
+unfolding parts_in
+all-others x s t n = others x (part_at s t) (part_at s t) 0 n (λ i. ap (part_at s t) {x = i} {y = 0 + i} (omega arith))
 
 -- ---- the parts at a path in one field
 module _ (mode : Mode) (path s : List ℕ) (f : Field) where
@@ -198,7 +213,7 @@ module _ (mode : Mode) (s : List ℕ) (b z : ℕ) (path t₀ : List ℕ) (n : �
   pub walked-done : rest_at mode path (between s b z) at ≡ [] → (parts_in s t k ≡ parts_in s t₀ n ++ at_path mode path (between s b z)) × Parts s t k
   walked-done e = (none_more s t k _ e ∙ g.goes, g.parts)
 
-  module _ (f : Field) (e : step.At f ≡ read_field mode (between s b z) at) where
+  module _ (f : Field) (e : Ok (Some f) ≡ read_field mode (between s b z) at) where
     goes-field : parts_in s t k ++ (field_parts mode path (between s b z) f ++ rest_at mode path (between s b z) f.next) ≡ parts_in s t₀ n ++ at_path mode path (between s b z)
     goes-field = ap (λ (l : List (List ℕ)). parts_in s t k ++ l) (sym (path-field mode path (between s b z) at f e)) ∙ g.goes
 

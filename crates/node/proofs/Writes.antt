@@ -25,12 +25,12 @@ field_is n len d e = rw e (sym (append_assoc (tag n 2) (uvarint (length d)) d))
 abbrev pub ids_left : ℕ → List ℕ → List ℕ → List ℕ → ℕ → List ℕ
 ids_left n rows ilens ids i = repeated (bytes_field 2) (map (id_at 128 ilens ids) (drop i (take n rows)))
 
-pub ids-end : (n : ℕ) (rows ilens ids : List ℕ) (i : ℕ) → n ≤ length rows → n ≤ i → ids_left n rows ilens ids i ≡ []
-ids-end n rows ilens ids i h k = rw (drop_of_length-le (take n rows) {i = i} (rw (length-take-le n rows h) k))
+pub ids-end : (n : ℕ) (rows ilens ids : List ℕ) (i : ℕ) → length (take n rows) ≤ i → ids_left n rows ilens ids i ≡ []
+ids-end n rows ilens ids i h = rw (drop_of_length-le (take n rows) {i = i} h)
 
-module _ (n : ℕ) (rows ilens ids : List ℕ) (i : ℕ) (ok : Listed n rows ilens ids) (r : n ≤ length rows) (h : i < n) where
+module _ (n : ℕ) (rows ilens ids : List ℕ) (i : ℕ) (ok : Listed n rows ilens ids) (r : n ≤ length rows) (h : i < length (take n rows)) where
   abbrev pub row : ℕ
-  row = get_or rows i 0
+  row = get_or (take n rows) i 0
 
   abbrev pub size : ℕ
   size = get_or ilens row 0
@@ -40,7 +40,10 @@ module _ (n : ℕ) (rows ilens ids : List ℕ) (i : ℕ) (ok : Listed n rows ile
   part = take ((row * 128 + size) - row * 128) (drop (row * 128) ids)
 
   pub id_lies : (row < 64) × (row < length ilens) × (size ≤ 128) × (row * 128 + size ≤ length ids)
-  id_lies = let w = ok.places i h in (w.0, omega (arith, ok.lengths), w.1, omega (arith, ok.room))
+  id_lies =
+      let l : i < n = rw (length-take-le n rows r) at h in
+      let w = ok.places i l in
+      rw (get_or-take n rows i 0 l) (w.0, omega (arith, ok.lengths), w.1, omega (arith, ok.room))
 
   part-id : part ≡ id_at 128 ilens ids row
   unfolding id_at
@@ -51,8 +54,7 @@ module _ (n : ℕ) (rows ilens ids : List ℕ) (i : ℕ) (ok : Listed n rows ile
 
   pub ids_next : ids_left n rows ilens ids i ≡ head 2 size ++ (part ++ ids_left n rows ilens ids (i + 1))
   ids_next =
-      let l : i < length (take n rows) = rw (length-take-le n rows r) h in
-      rw (drop-cons (take n rows) i 0 l, get_or-take n rows i 0 h, add-one i)
+      rw (drop-cons (take n rows) i 0 h, add-one i)
       (ap (λ (x : List ℕ). x ++ ids_left n rows ilens ids (suc i)) (ap (bytes_field 2) (sym part-id) ∙ field_is 2 size part part-size)
       ∙ append_assoc (head 2 size) part (ids_left n rows ilens ids (suc i)))
 

@@ -1,6 +1,6 @@
 -- Serve with a second body: the messages whose ids it declines are left out, and count neither as written nor as left;
 -- of the others that are named and cached each is one of both, in order. With an empty one it is the scope's serve.
-use Rattle.std.specs.Prelude.{ℕ, ◌≡◌, refl, List, [], ◌∷◌, ◌++◌, map, Bool, true, false, cond, not, ◌&&◌, ◌||◌, take, drop, eqb}
+use Rattle.std.specs.Prelude.{Result, Err, ℕ, ◌≡◌, refl, List, [], ◌∷◌, ◌++◌, map, Bool, true, false, cond, not, ◌&&◌, ◌||◌, take, drop, eqb}
 use Rattle.std.proofs.Common.{sym, ap, ◌∙◌, arith, take-append-drop}
 use Rattle.std.proofs.Math.Bool.{and-false}
 use Rattle.std.proofs.lemmas.List.Edits.{sets}
@@ -15,9 +15,11 @@ use Rattle.rows.specs.ListLaws.{map-take, map-drop}
 use Rattle.schema.specs.Accept.{accept_of}
 use Rattle.schema.specs.AcceptLaws.{empty-taken}
 use Rattle.mcache.specs.Messages.{held, get}
+use Rattle.basis.specs.declared.Fault.{Fault}
 use Rattle.node.specs.declared.Node.{Node}
-use Rattle.node.specs.declared.Serve.{Serve}
-use Rattle.node.specs.declared.Serve.TheVariants as serve
+use Rattle.node.specs.declared.Reply.{Reply}
+use Rattle.node.specs.declared.ServeError.TheVariants as serve
+use Rattle.node.specs.declared.ServeError.{ServeError}
 use Rattle.node.specs.Parts.{once, without}
 use Rattle.node.specs.PartsLaws.{path-all, path-done, once-distinct, once-among, without-none, without-among}
 use Rattle.node.specs.PartsLaws.{without-distinct}
@@ -27,9 +29,9 @@ use Rattle.node.specs.Calls.{reply_bytes, reply_to, serve_on, serve_answer, serv
 
 -- ---- an empty second body
 -- as serve was before it could be lent one
-unfoldable pub serve_answer_was : Node → List ℕ → List ℕ → Edition → List ℕ → List ℕ → Serve
+unfoldable pub serve_answer_was : Node → List ℕ → List ℕ → Edition → List ℕ → List ℕ → Result Reply ServeError
 serve_answer_was n ss cs ed body out =
-    on_lent serve.Faulty (lent_of n ss cs)
+    on_lent (λ (why : Fault). Err (serve.Faulty why)) (lent_of n ss cs)
     (serve_on (reply_to (cached_of n.cache cs (wanted (mode_of n.cache.flags) body)) out)
     (accept_of (spoken (mode_of n.cache.flags) ed) body))
 

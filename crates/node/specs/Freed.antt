@@ -1,6 +1,6 @@
 -- Freed places are used again, on the node's own path: where an admit that is answered new writes the id and the
 -- message, after its clean-up.
-use Rattle.std.specs.Prelude.{ℕ, ◌≡◌, List, Bool}
+use Rattle.std.specs.Prelude.{Ok, ℕ, ◌≡◌, List, Bool}
 use Rattle.std.proofs.Math.Path.{sym}
 use Rattle.std.proofs.Common.{◌∙◌, arith}
 use Rattle.std.proofs.Math.Bool.{true, false}
@@ -20,7 +20,7 @@ use Rattle.mcache.specs.Calls.{planned as putPlanned}
 use Rattle.mcache.specs.Laws.{held-index, put_plan}
 use Rattle.mcache.specs.Readers as mcache
 use Rattle.node.specs.declared.Node.{Node}
-use Rattle.node.specs.declared.Admit.TheVariants as admit
+use Rattle.node.specs.declared.Novelty.TheVariants as novelty
 use Rattle.node.specs.Gateway.{form_of}
 use Rattle.node.specs.Calls.{taken, planned, swept, held_at, admit_answer, admit_node, admit_seen}
 use Rattle.node.specs.Calls.{admit_cache, later_node}
@@ -52,7 +52,7 @@ plan_put {n} {ss} {cs} {ed} {body} {i} {word} {at} {m} {id} t =
     rw (← t.bytes, ← t.named, held-index n.cache cs id) at p
 
 -- an admit is answered new only where it takes a message
-new_plan : (n : Node) (ss : List ℕ) (at : ℕ) (m id : List ℕ) → admit_answer n ss at (taken m id) ≡ admit.New
+new_plan : (n : Node) (ss : List ℕ) (at : ℕ) (m id : List ℕ) → admit_answer n ss at (taken m id) ≡ Ok novelty.New
     → held_at n ss at (form_of (mode_of n.cache.flags) m id) ≡ false
 new_plan n ss at m id h = either (held_at n ss at (form_of (mode_of n.cache.flags) m id))
     (λ t. clash (let z = rw t at h in cc)) (λ t. t)
@@ -103,7 +103,7 @@ module _ (n : Node) (ss cs : List ℕ) (ed : Edition) (body : List ℕ) (i : ℕ
 
 pub admit-freed : (n : Node) (ss cs : List ℕ) (ed : Edition) (body : List ℕ) (i : ℕ) (word : Bool) (at : ℕ)
     (m id : List ℕ) → Typed n → planned n ss cs ed body i word at ≡ taken m id
-    → admit_answer n ss at (planned n ss cs ed body i word at) ≡ admit.New
+    → admit_answer n ss at (planned n ss cs ed body i word at) ≡ Ok novelty.New
     → Freed n ss cs at m id (admit_node n ss at (planned n ss cs ed body i word at))
     (admit_seen n ss at (planned n ss cs ed body i word at)) (admit_cache n ss cs at (planned n ss cs ed body i word at))
 admit-freed n ss cs ed body i word at m id typed plan h =

@@ -1,7 +1,6 @@
 -- A gateway as the scope has it, "The node": its settings, its clock, the ids that it has seen and the messages that it
 -- holds, the oldest first; and what each call does to it and makes of it. Nothing here speaks of bytes in a store.
-use Rattle.std.specs.Prelude.{ℕ, min, Bool, true, false, cond, not, ◌&&◌, ◌||◌, List, [], ◌∷◌, length, take, drop, eqb}
-use Rattle.std.proofs.Math.Option.{Option, none, some}
+use Rattle.std.specs.Prelude.{Option, Some, None, ℕ, min, Bool, true, false, cond, not, ◌&&◌, ◌||◌, List, [], ◌∷◌, length, take, drop, eqb}
 use Rattle.basis.specs.declared.Mode.{Mode}
 use Rattle.basis.specs.Dialect.{mode_of}
 use Rattle.protobuf.specs.Encode.{bytes_field}
@@ -82,16 +81,16 @@ after_beat at g =
 -- ---- what advertise and ask write: an RPC, or nothing
 -- no ids: no RPC
 abbrev pub if_any : List (List ℕ) → Rpc → Option Rpc
-if_any [] x = none
-if_any (i ∷ is) x = some x
+if_any [] x = None
+if_any (i ∷ is) x = Some x
 
 -- and no bytes
 abbrev pub rpc_bytes : Option Rpc → List ℕ
-rpc_bytes none = []
-rpc_bytes (some x) = encode_rpc x
+rpc_bytes None = []
+rpc_bytes (Some x) = encode_rpc x
 
 abbrev pub controlled : ControlMessage → Rpc
-controlled c = record { subscriptions = []; publish = []; control = some c }
+controlled c = record { subscriptions = []; publish = []; control = Some c }
 
 -- ---- advertise
 -- the ids of the newest windows that carry the topic, sorted
@@ -102,7 +101,7 @@ told_of topic windows g = gossip_ids (mode_of g.flags) topic windows g.cache
 unfoldable pub advertisement : List ℕ → List (List ℕ) → Rpc
 advertisement topic ids =
     controlled (record {
-      ihave = record { topic_id = some topic; message_ids = ids } ∷ [];
+      ihave = record { topic_id = Some topic; message_ids = ids } ∷ [];
       iwant = [];
       graft = [];
       prune = [];

@@ -1,6 +1,6 @@
 -- What the calls on a node mean: they do to the gateway what the scope says, they speak of what it holds, and a refused
 -- call changes nothing.
-use Rattle.std.specs.Prelude.{ℕ, ◌≤◌, ◌≡◌, Bool, true, cond, ◌↔◌, length, leb, ltb, eqb}
+use Rattle.std.specs.Prelude.{false, Result, Ok, Err, ℕ, ◌≤◌, ◌≡◌, Bool, true, cond, ◌↔◌, length, leb, ltb, eqb}
 use Rattle.std.proofs.Math.Path.{refl, ap}
 use Rattle.std.proofs.Common.{sym, ◌∙◌, arith}
 use mathlib.Core.List.{List, [], ◌∷◌}
@@ -16,19 +16,11 @@ use Rattle.rows.specs.Rows.{place_of, rows_in}
 use Rattle.rows.specs.RowsLaws.{length_ring}
 use Rattle.rows.specs.Store.{id_at, ids_in}
 use Rattle.node.specs.Parts.{at_path}
-use Rattle.protobuf.specs.declared.Checked.{Checked}
-use Rattle.protobuf.specs.declared.Checked.TheVariants as checked
 use Rattle.protobuf.specs.Walk.{between}
-use Rattle.ids.specs.declared.MessageAt.{MessageAt}
-use Rattle.ids.specs.declared.MessageAt.TheVariants as found
 use Rattle.schema.specs.Accept.{accept_of}
 use Rattle.ids.specs.Ids.{message_at, id_bytes}
-use Rattle.admission.specs.declared.Admission.{Admission}
-use Rattle.admission.specs.declared.Admission.TheVariants as admission
 use Rattle.admission.specs.Admission.{admission_of, vouched, gives_id}
 use Rattle.admission.specs.AdmissionLaws.{fit-vouched, fit-true, fit-limits, fit-id, gives-own, gives-only, message-read}
-use Rattle.seen.specs.declared.Lent.TheVariants as seenLent
-use Rattle.seen.specs.declared.Insert.TheVariants as insert
 use Rattle.seen.specs.Entries.{ids_of, holds, until, inserted, live}
 use Rattle.seen.specs.State.{entries_in, id_size, fresh as noIds}
 use Rattle.seen.specs.Calls.{lent_of as seenLentOf, entered, entered_store, insert_answer, insert_cache, insert_store}
@@ -45,12 +37,13 @@ use Rattle.mcache.specs.CachedLaws.{cached-shifted}
 use Rattle.mcache.specs.GossipLaws.{gossip_ids_lem}
 use Rattle.mcache.specs.Laws.{under-settings, under-cached, shifted-settings, held-index, found-cached}
 use Rattle.node.specs.declared.Node.{Node}
-use Rattle.node.specs.declared.Lent.{Lent}
-use Rattle.node.specs.declared.Lent.TheVariants as lent
-use Rattle.node.specs.declared.Start.TheVariants as start
-use Rattle.node.specs.declared.Admit.TheVariants as admit
-use Rattle.node.specs.declared.Beat.{Beat}
-use Rattle.node.specs.declared.Beat.TheVariants as beat
+use Rattle.protobuf.specs.declared.Refusal.{Refusal}
+use Rattle.admission.specs.declared.Unfit.{Unfit}
+use Rattle.basis.specs.declared.Fault.{Fault}
+use Rattle.node.specs.declared.BeatError.TheVariants as beat
+use Rattle.node.specs.declared.BeatError.{BeatError}
+use Rattle.node.specs.declared.Novelty.TheVariants as novelty
+use Rattle.seen.specs.declared.Entry.TheVariants as entry
 use Rattle.node.specs.Gateway.{Gateway, started, form_of, is_new, after_admit, after_beat, told_of, knows, lacking}
 use Rattle.node.specs.Gateway.{having}
 use Rattle.node.specs.Gateway.{rpc_bytes, advertise_of, ask_of, serve_of, sent_bytes}
@@ -79,7 +72,7 @@ unfolding start_node
 start-gateway ttl max_seen history max flags ss cs h = rw h (fresh-gateway ttl max_seen history max flags ss cs)
 
 pub start-says : (max_seen history max flags : ℕ) → legal_settings max_seen history max flags ≡ true
-    → start_answer max_seen history max flags ≡ start.Started
+    → start_answer max_seen history max flags ≡ Ok tt
 unfolding start_answer
 start-says max_seen history max flags h = rw h
 
@@ -88,28 +81,28 @@ start-says max_seen history max flags h = rw h
 -- with the host's word; its id is from + seqno; and the clock is not ahead
 pub record Takes (n : Node) (ss cs : List ℕ) (ed : Edition) (body : List ℕ) (i : ℕ) (word : Bool) (at : ℕ)
     (m id : List ℕ) : Type 0 where
-  pub fine : lent_of n ss cs ≡ lent.Fine
-  pub accepted : accept_of (spoken (mode_of n.cache.flags) ed) body ≡ checked.Fine
+  pub fine : lent_of n ss cs ≡ Ok tt
+  pub accepted : accept_of (spoken (mode_of n.cache.flags) ed) body ≡ Ok tt
   pub start : ℕ
   pub next : ℕ
-  pub there : message_at (mode_of n.cache.flags) body i ≡ found.At start next
+  pub there : message_at (mode_of n.cache.flags) body i ≡ Ok (start, next)
   pub bytes : m ≡ between body start next
   pub from_start : ℕ
   pub from_end : ℕ
   pub seqno-start : ℕ
   pub seqno-end : ℕ
-  pub fit : admission_of n.cache.flags m word ≡ admission.Fit from_start from_end seqno-start seqno-end
+  pub fit : admission_of n.cache.flags m word ≡ Ok ((from_start, from_end), (seqno-start, seqno-end))
   pub named : id ≡ id_bytes m from_start from_end seqno-start seqno-end
   pub forward : n.clock ≤ at
 
 module _ (n : Node) (ss cs : List ℕ) (ed : Edition) (body : List ℕ) (i : ℕ) (word : Bool) (at : ℕ) (m id : List ℕ) where
-  module _ (fine : lent_of n ss cs ≡ lent.Fine) (ok : accept_of (spoken (mode_of n.cache.flags) ed) body
-      ≡ checked.Fine) where
-    of-fit : (a e : ℕ) (r : Admission) → message_at (mode_of n.cache.flags) body i ≡ found.At a e
+  module _ (fine : lent_of n ss cs ≡ Ok tt) (ok : accept_of (spoken (mode_of n.cache.flags) ed) body
+      ≡ Ok tt) where
+    of-fit : (a e : ℕ) (r : Result ((ℕ × ℕ) × (ℕ × ℕ)) Unfit) → message_at (mode_of n.cache.flags) body i ≡ Ok (a, e)
         → admission_of n.cache.flags (between body a e) word ≡ r
         → plan_fit n at (between body a e) r ≡ taken m id → Takes n ss cs ed body i word at m id
-    of-fit a e (admission.Unfit why) there f h = clash (cc)
-    of-fit a e (admission.Fit x y z w) there f h =
+    of-fit a e (Err why) there f h = clash (cc)
+    of-fit a e (Ok ((x, y), (z, w))) there f h =
         let p = between body a e in
         either (ltb at n.clock)
         (λ t. clash (let q = rw t at h in cc))
@@ -133,21 +126,21 @@ module _ (n : Node) (ss cs : List ℕ) (ed : Edition) (body : List ℕ) (i : ℕ
           forward = ltb-false at n.clock t;
         })
 
-    of_at : (r : MessageAt) → message_at (mode_of n.cache.flags) body i ≡ r → plan_at n at word body r ≡ taken m id
+    of_at : (r : Result (ℕ × ℕ) ℕ) → message_at (mode_of n.cache.flags) body i ≡ r → plan_at n at word body r ≡ taken m id
         → Takes n ss cs ed body i word at m id
-    of_at (found.Count k) there h = clash (cc)
-    of_at (found.At a e) there h = of-fit a e (admission_of n.cache.flags (between body a e) word) there refl h
+    of_at (Err k) there h = clash (cc)
+    of_at (Ok (a, e)) there h = of-fit a e (admission_of n.cache.flags (between body a e) word) there refl h
 
-  of-body : lent_of n ss cs ≡ lent.Fine → (r : Checked) → accept_of (spoken (mode_of n.cache.flags) ed) body ≡ r
+  of-body : lent_of n ss cs ≡ Ok tt → (r : Result (Unit {0}) Refusal) → accept_of (spoken (mode_of n.cache.flags) ed) body ≡ r
       → plan_body n at word body i r ≡ taken m id → Takes n ss cs ed body i word at m id
-  of-body fine (checked.Refused why) ok h = clash (cc)
-  of-body fine checked.Fine ok h = of_at fine ok (message_at (mode_of n.cache.flags) body i) refl h
+  of-body fine (Err why) ok h = clash (cc)
+  of-body fine (Ok _) ok h = of_at fine ok (message_at (mode_of n.cache.flags) body i) refl h
 
-  of_lent_lem : (l : Lent) → lent_of n ss cs ≡ l → planned n ss cs ed body i word at ≡ taken m id
+  of_lent_lem : (l : Result (Unit {0}) Fault) → lent_of n ss cs ≡ l → planned n ss cs ed body i word at ≡ taken m id
       → Takes n ss cs ed body i word at m id
   unfolding planned
-  of_lent_lem (lent.Faulty why) e h = clash (let q = rw e at h in cc)
-  of_lent_lem lent.Fine e h = of-body e (accept_of (spoken (mode_of n.cache.flags) ed) body) refl (rw e at h)
+  of_lent_lem (Err why) e h = clash (let q = rw e at h in cc)
+  of_lent_lem (Ok _) e h = of-body e (accept_of (spoken (mode_of n.cache.flags) ed) body) refl (rw e at h)
 
   takes_plan : Takes n ss cs ed body i word at m id → planned n ss cs ed body i word at ≡ taken m id
   unfolding planned
@@ -168,7 +161,7 @@ module _ {n : Node} {ss cs : List ℕ} {ed : Edition} {body : List ℕ} {i : ℕ
 
   -- it would be taken with the host's word
   pub takes-true : admission_of n.cache.flags m true
-      ≡ admission.Fit t.from_start t.from_end t.seqno-start t.seqno-end
+      ≡ Ok ((t.from_start, t.from_end), (t.seqno-start, t.seqno-end))
   takes-true = fit-true n.cache.flags m word t.from_start t.from_end t.seqno-start t.seqno-end t.fit
 
   pub takes-small : length m ≤ message_size
@@ -189,9 +182,9 @@ module _ {n : Node} {ss cs : List ℕ} {ed : Edition} {body : List ℕ} {i : ℕ
 
 -- where nothing is refused, the message at the index is taken, under its id
 pub plan_taken : (n : Node) (ss cs : List ℕ) (ed : Edition) (body : List ℕ) (i at a e x y z w : ℕ)
-    → lent_of n ss cs ≡ lent.Fine → accept_of (spoken (mode_of n.cache.flags) ed) body ≡ checked.Fine
-    → message_at (mode_of n.cache.flags) body i ≡ found.At a e
-    → admission_of n.cache.flags (between body a e) true ≡ admission.Fit x y z w → n.clock ≤ at
+    → lent_of n ss cs ≡ Ok tt → accept_of (spoken (mode_of n.cache.flags) ed) body ≡ Ok tt
+    → message_at (mode_of n.cache.flags) body i ≡ Ok (a, e)
+    → admission_of n.cache.flags (between body a e) true ≡ Ok ((x, y), (z, w)) → n.clock ≤ at
     → planned n ss cs ed body i true at ≡ taken (between body a e) (id_bytes (between body a e) x y z w)
 unfolding planned
 plan_taken n ss cs ed body i at a e x y z w fine ok there fit h = rw (fine, ok, there, fit, le-ltb at n.clock h)
@@ -203,7 +196,7 @@ fit_plan n at m id own h = let g = gives-only n.cache.flags m id own in
     rw (g.taken, le-ltb at n.clock h) (ap (λ (i : List ℕ). taken m i) (sym g.named))
 
 -- ---- the ids seen, after a clean-up and an insert: what the seen cache's own calls leave
-module _ (n : Node) (ss cs : List ℕ) (fine : lent_of n ss cs ≡ lent.Fine) (at : ℕ) where
+module _ (n : Node) (ss cs : List ℕ) (fine : lent_of n ss cs ≡ Ok tt) (at : ℕ) where
   pub swept_gc : swept n at ≡ gc_cache at n.seen ss
   unfolding swept gc_cache
   swept_gc = let t = fine-tests n ss cs fine in rw (t.ids, room_cap n ss t.room)
@@ -223,15 +216,15 @@ module _ (n : Node) (ss cs : List ℕ) (fine : lent_of n ss cs ≡ lent.Fine) (a
   is_new_lem m id = ap not (held-swept (form_of (mode_of n.cache.flags) m id))
 
   module _ (z : Sized n.seen) where
-    pub swept-fine : seenLentOf (swept n at) ss ≡ seenLent.Fine
+    pub swept-fine : seenLentOf (swept n at) ss ≡ Ok tt
     swept-fine = rw swept_gc (gc_fine n.seen ss (fine-tests n ss cs fine).ids z at)
 
     pub swept-sized : Sized (swept n at)
     swept-sized = rw swept_gc (gc_sized n.seen ss (fine-tests n ss cs fine).ids z at)
 
     module _ (form : List ℕ) (k : length form ≤ id_size) where
-      insert_answer_lem : insert_answer n.max_seen (swept n at) ss form ≡ cond (held_at n ss at form) insert.Held
-          insert.Fresh
+      insert_answer_lem : insert_answer n.max_seen (swept n at) ss form
+          ≡ Ok (cond (held_at n ss at form) entry.Held entry.Fresh)
       unfolding held_at
       insert_answer_lem =
           let c = room_cap n ss (fine-tests n ss cs fine).room in
@@ -269,7 +262,7 @@ module _ (n : Node) (ss cs : List ℕ) (fine : lent_of n ss cs ≡ lent.Fine) (a
 module _ (n : Node) (ss cs : List ℕ) (ed : Edition) (body : List ℕ) (i : ℕ) (word : Bool) (at : ℕ) (m id : List ℕ)
     (typed : Typed n) (plan : planned n ss cs ed body i word at ≡ taken m id) where
   pub admit-says : admit_answer n ss at (planned n ss cs ed body i word at) ≡ cond (is_new at m id (gateway_in n ss cs))
-      admit.New admit.Duplicate
+      (Ok novelty.New) (Ok novelty.Duplicate)
   admit-says =
       let t = (plan_takes n ss cs ed body i word at m id).0 plan in
       rw (plan, is_new_lem n ss cs t.fine at m id) (either (held_at n ss at (form_of (mode_of n.cache.flags) m id))
@@ -296,14 +289,14 @@ module _ (n : Node) (ss cs : List ℕ) (ed : Edition) (body : List ℕ) (i : ℕ
       (either (held_at n ss at (form_of (mode_of n.cache.flags) m id)) (λ u. rw u) (λ u. rw (u, c, s.0, s.1, s.2)))
 
 -- ---- heartbeat
-beat-passes : (n : Node) (ss cs : List ℕ) (at : ℕ) (l : Lent) → lent_of n ss cs ≡ l → beat_answer n ss cs at ≡ beat.Done
-    → lent_of n ss cs ≡ lent.Fine
+beat-passes : (n : Node) (ss cs : List ℕ) (at : ℕ) (l : Result (Unit {0}) Fault) → lent_of n ss cs ≡ l → beat_answer n ss cs at ≡ Ok tt
+    → lent_of n ss cs ≡ Ok tt
 unfolding beat_answer
-beat-passes n ss cs at (lent.Faulty why) e h = clash (let q = rw e at h in cc)
-beat-passes n ss cs at lent.Fine e h = e
+beat-passes n ss cs at (Err why) e h = clash (let q = rw e at h in cc)
+beat-passes n ss cs at (Ok _) e h = e
 
 -- a heartbeat that is done: the node passed, and the clock did not go back
-pub beat-done : (n : Node) (ss cs : List ℕ) (at : ℕ) → beat_answer n ss cs at ≡ beat.Done → (lent_of n ss cs ≡ lent.Fine)
+pub beat-done : (n : Node) (ss cs : List ℕ) (at : ℕ) → beat_answer n ss cs at ≡ Ok tt → (lent_of n ss cs ≡ Ok tt)
     × (n.clock ≤ at)
 unfolding beat_answer
 beat-done n ss cs at h =
@@ -311,18 +304,18 @@ beat-done n ss cs at h =
     (f, either (ltb at n.clock) (λ t. clash (let q = rw (f, t) at h in cc)) (λ t. ltb-false at n.clock t))
 
 -- and where it is done
-pub beat-says : (n : Node) (ss cs : List ℕ) (at : ℕ) → lent_of n ss cs ≡ lent.Fine → n.clock ≤ at
-    → beat_answer n ss cs at ≡ beat.Done
+pub beat-says : (n : Node) (ss cs : List ℕ) (at : ℕ) → lent_of n ss cs ≡ Ok tt → n.clock ≤ at
+    → beat_answer n ss cs at ≡ Ok tt
 unfolding beat_answer
 beat-says n ss cs at f h = rw (f, le-ltb at n.clock h)
 
 -- it sets the clock
-pub beat-clock : (n : Node) (ss cs : List ℕ) (at : ℕ) → beat_answer n ss cs at ≡ beat.Done
+pub beat-clock : (n : Node) (ss cs : List ℕ) (at : ℕ) → beat_answer n ss cs at ≡ Ok tt
     → (beat_node n ss cs at).clock ≡ at
 unfolding beat_node later_node
 beat-clock n ss cs at h = rw h
 
-pub beat-gateway : (n : Node) (ss cs : List ℕ) (at : ℕ) → Typed n → beat_answer n ss cs at ≡ beat.Done
+pub beat-gateway : (n : Node) (ss cs : List ℕ) (at : ℕ) → Typed n → beat_answer n ss cs at ≡ Ok tt
     → gateway_in (beat_node n ss cs at) ss cs ≡ after_beat at (gateway_in n ss cs)
 unfolding beat_node gateway_in after_beat later_node
 beat-gateway n ss cs at typed h =
@@ -335,7 +328,7 @@ beat-gateway n ss cs at typed h =
 
 -- ---- what the other calls speak of
 -- the ids that are told of
-pub told-gateway : (n : Node) (ss cs topic : List ℕ) (windows : ℕ) → lent_of n ss cs ≡ lent.Fine
+pub told-gateway : (n : Node) (ss cs topic : List ℕ) (windows : ℕ) → lent_of n ss cs ≡ Ok tt
     → told_in n cs topic windows ≡ told_of topic windows (gateway_in n ss cs)
 unfolding told_in gateway_in
 told-gateway n ss cs topic windows f = gossip_ids_lem n.cache cs topic windows (fine-tests n ss cs f).messages
@@ -387,7 +380,7 @@ unfolding gateway_in
 cached-gateway n ss cs is = cached-having (gateway_in n ss cs) n.cache cs is refl
 
 -- ---- what is written, where nothing is refused before
-module _ (n : Node) (ss cs out : List ℕ) (fine : lent_of n ss cs ≡ lent.Fine) where
+module _ (n : Node) (ss cs out : List ℕ) (fine : lent_of n ss cs ≡ Ok tt) where
   pub advertise-says : (topic : List ℕ) (windows : ℕ) → length topic ≤ 1024
       → (advertise_answer n ss cs topic windows out
       ≡ advertised (answer (rpc_bytes (advertise_of topic windows (gateway_in n ss cs))) out))
@@ -398,7 +391,7 @@ module _ (n : Node) (ss cs out : List ℕ) (fine : lent_of n ss cs ≡ lent.Fine
       rw (fine, le-ltb 1024 (length topic) h, told-gateway n ss cs topic windows fine) (refl, refl)
 
   module _ (ed : Edition) (body : List ℕ) (ok : accept_of (spoken (mode_of n.cache.flags) ed) body
-      ≡ checked.Fine) where
+      ≡ Ok tt) where
     pub ask-says : (ask_answer n ss cs ed body out
         ≡ asked (answer (rpc_bytes (ask_of (at_path (mode_of n.cache.flags) (3 ∷ 1 ∷ 2 ∷ []) body)
         (gateway_in n ss cs))) out))
@@ -408,7 +401,7 @@ module _ (n : Node) (ss cs out : List ℕ) (fine : lent_of n ss cs ≡ lent.Fine
     ask-says = rw (fine, ok, unseen_gateway n ss cs (offered (mode_of n.cache.flags) body)) (refl, refl)
 
     -- the second body too
-    pub serve-says : (second : List ℕ) → accept_of (spoken (mode_of n.cache.flags) V12) second ≡ checked.Fine
+    pub serve-says : (second : List ℕ) → accept_of (spoken (mode_of n.cache.flags) V12) second ≡ Ok tt
         → (serve_answer n ss cs ed body second out
         ≡ replied (serve_of (at_path (mode_of n.cache.flags) (3 ∷ 2 ∷ 1 ∷ []) body)
         (unwanted_in (mode_of n.cache.flags) second) (length out) (gateway_in n ss cs)))
@@ -437,10 +430,10 @@ pub admit-refused : (n : Node) (ss cs : List ℕ) (ed : Edition) (body : List �
 admit-refused n ss cs ed body i word at h = plan_refused n ss cs at (planned n ss cs ed body i word at) h
 
 -- a heartbeat is not given the stores to write
-done-or-not : (n d : Node) (r : Beat) → (beat_number r ≡ 0 → ⊥) → when_done r d n ≡ n
-done-or-not n d beat.Done h = absurd (h refl)
-done-or-not n d (beat.Faulty why) h = refl
-done-or-not n d (beat.ClockBack clock) h = refl
+done-or-not : (n d : Node) (r : Result (Unit {0}) BeatError) → (beat_number r ≡ 0 → ⊥) → when_done r d n ≡ n
+done-or-not n d (Ok _) h = absurd (h refl)
+done-or-not n d (Err (beat.Faulty why)) h = refl
+done-or-not n d (Err (beat.ClockBack clock)) h = refl
 
 pub beat-refused : (n : Node) (ss cs : List ℕ) (at : ℕ) → (beat_number (beat_answer n ss cs at) ≡ 0 → ⊥)
     → beat_node n ss cs at ≡ n
@@ -453,12 +446,12 @@ unfolding written
 written-not xs out h = either (leb (length xs) (length out)) (λ t. absurd (h t)) (λ t. rw t)
 
 module _ (n : Node) (ss cs out : List ℕ) where
-  advertise-by : (topic : List ℕ) (windows : ℕ) (l : Lent) → lent_of n ss cs ≡ l
+  advertise-by : (topic : List ℕ) (windows : ℕ) (l : Result (Unit {0}) Fault) → lent_of n ss cs ≡ l
       → (advertise_number (advertise_answer n ss cs topic windows out) ≡ 0 → ⊥)
       → advertise_left n ss cs topic windows out ≡ out
   unfolding advertise_answer advertise_left answer
-  advertise-by topic windows (lent.Faulty why) e h = rw e
-  advertise-by topic windows lent.Fine e h =
+  advertise-by topic windows (Err why) e h = rw e
+  advertise-by topic windows (Ok _) e h =
       either (ltb 1024 (length topic)) (λ t. rw (e, t))
       (λ t. rw (e, t) (written-not (advertise_bytes n cs topic windows) out (λ u. h (rw (e, t, u)))))
 
@@ -467,13 +460,13 @@ module _ (n : Node) (ss cs out : List ℕ) where
       → advertise_left n ss cs topic windows out ≡ out
   advertise-refused topic windows h = advertise-by topic windows (lent_of n ss cs) refl h
 
-  ask-by : (ed : Edition) (body : List ℕ) (l : Lent) (r : Checked) → lent_of n ss cs ≡ l
+  ask-by : (ed : Edition) (body : List ℕ) (l : Result (Unit {0}) Fault) (r : Result (Unit {0}) Refusal) → lent_of n ss cs ≡ l
       → accept_of (spoken (mode_of n.cache.flags) ed) body ≡ r
       → (ask_number (ask_answer n ss cs ed body out) ≡ 0 → ⊥) → ask_left n ss cs ed body out ≡ out
   unfolding ask_answer ask_left answer
-  ask-by ed body (lent.Faulty why) r e a h = rw e
-  ask-by ed body lent.Fine (checked.Refused why) e a h = rw (e, a)
-  ask-by ed body lent.Fine checked.Fine e a h = rw (e, a) (written-not (ask_bytes n ss body) out (λ u. h (rw (e, a, u))))
+  ask-by ed body (Err why) r e a h = rw e
+  ask-by ed body (Ok _) (Err why) e a h = rw (e, a)
+  ask-by ed body (Ok _) (Ok _) e a h = rw (e, a) (written-not (ask_bytes n ss body) out (λ u. h (rw (e, a, u))))
 
   pub ask-refused : (ed : Edition) (body : List ℕ) → (ask_number (ask_answer n ss cs ed body out) ≡ 0 → ⊥)
       → ask_left n ss cs ed body out ≡ out
@@ -488,15 +481,15 @@ module _ (n : Node) (ss cs out : List ℕ) where
       (λ t. rw (reply_bytes_lem (m ∷ ms) out, eqb-true (served_of (m ∷ ms) out) 0 t))
       (λ t. absurd (h (rw (reply-some m ms out (eqb-false (served_of (m ∷ ms) out) 0 t)))))
 
-  serve-by : (ed : Edition) (body second : List ℕ) (l : Lent) (r q : Checked) → lent_of n ss cs ≡ l
+  serve-by : (ed : Edition) (body second : List ℕ) (l : Result (Unit {0}) Fault) (r q : Result (Unit {0}) Refusal) → lent_of n ss cs ≡ l
       → accept_of (spoken (mode_of n.cache.flags) ed) body ≡ r
       → accept_of (spoken (mode_of n.cache.flags) V12) second ≡ q
       → (serve_number (serve_answer n ss cs ed body second out) ≡ 0 → ⊥) → serve_left n ss cs ed body second out ≡ out
   unfolding serve_answer serve_left
-  serve-by ed body second (lent.Faulty why) r q e a b h = rw e
-  serve-by ed body second lent.Fine (checked.Refused why) q e a b h = rw (e, a)
-  serve-by ed body second lent.Fine checked.Fine (checked.Refused why) e a b h = rw (e, a, b)
-  serve-by ed body second lent.Fine checked.Fine checked.Fine e a b h =
+  serve-by ed body second (Err why) r q e a b h = rw e
+  serve-by ed body second (Ok _) (Err why) q e a b h = rw (e, a)
+  serve-by ed body second (Ok _) (Ok _) (Err why) e a b h = rw (e, a, b)
+  serve-by ed body second (Ok _) (Ok _) (Ok _) e a b h =
       rw (e, a, b) (reply-refused (cached_of n.cache cs (remaining (mode_of n.cache.flags) body second))
       (λ u. h (rw (e, a, b) u)))
 

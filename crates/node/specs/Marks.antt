@@ -1,6 +1,6 @@
 -- What the two marks promise: a claim without a signature does not keep the message with one from being called new, nor the
 -- other way round; the cache, which goes by the id alone, keeps whichever came first; and which marks ask looks for.
-use Rattle.std.specs.Prelude.{ℕ, zero, suc, ◌-◌, ◌≤◌, ◌≡◌, Bool, true, not, ◌||◌, length, drop, leb}
+use Rattle.std.specs.Prelude.{Ok, ℕ, zero, suc, ◌-◌, ◌≤◌, ◌≡◌, Bool, true, not, ◌||◌, length, drop, leb}
 use Rattle.std.proofs.Math.Path.{refl, ap}
 use Rattle.std.proofs.Common.{◌∙◌, arith, drop_of_length-le}
 use mathlib.Core.List.{List, [], ◌∷◌, ◌++◌, map-append}
@@ -18,7 +18,7 @@ use Rattle.seen.specs.Entries.{Entry, ids_of, holds, until, inserted, live}
 use Rattle.mcache.specs.Messages.{held, put}
 use Rattle.mcache.specs.State.{cached_in}
 use Rattle.node.specs.declared.Node.{Node}
-use Rattle.node.specs.declared.Admit.TheVariants as admit
+use Rattle.node.specs.declared.Novelty.TheVariants as novelty
 use Rattle.node.specs.Gateway.{Gateway, marked, form_of, is_new, after_admit, knows, having}
 use Rattle.node.specs.State.{gateway_in}
 use Rattle.node.specs.Calls.{taken, planned, admit_answer, admit_node, admit_seen, admit_cache, cached_of}
@@ -126,7 +126,7 @@ module _ (n : Node) (ss cs : List ℕ) (ed : Edition) (body : List ℕ) (i : ℕ
       → not (is_signed (mode_of n.cache.flags) u) ≡ is_signed (mode_of n.cache.flags) m
       → planned next_node next_seen next_cache ed2 body2 j word2 later ≡ taken m id
       → is_new later m id (gateway_in n ss cs) ≡ true
-      → admit_answer next_node next_seen later (planned next_node next_seen next_cache ed2 body2 j word2 later) ≡ admit.New
+      → admit_answer next_node next_seen later (planned next_node next_seen next_cache ed2 body2 j word2 later) ≡ Ok novelty.New
   other_mark-told ed2 body2 j word2 later m differ plan2 new =
       let t = (plan_takes next_node next_seen next_cache ed2 body2 j word2 later m id).0 plan2 in
       let l : at ≤ later = omega (arith, next-clock, t.forward) in

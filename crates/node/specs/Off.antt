@@ -1,17 +1,13 @@
 -- Where the flags allow no unsigned message, a node is what it was before there were flags, in the mode that they name:
 -- each definition that reads them equals the one it was, which stands here.
-use Rattle.std.specs.Prelude.{ℕ, ◌≡◌, refl, List, [], ◌∷◌, Bool, true, false, cond, not}
+use Rattle.std.specs.Prelude.{Result, Ok, Err, ℕ, ◌≡◌, refl, List, [], ◌∷◌, Bool, true, false, cond, not}
 use Rattle.std.proofs.Common.{ap}
 use Rattle.basis.specs.declared.Edition.{Edition}
 use Rattle.basis.specs.Dialect.{mode_of, spoken}
 use Rattle.basis.specs.Cases.{either}
 use Rattle.rows.specs.Ids.{among}
-use Rattle.protobuf.specs.declared.Checked.{Checked}
-use Rattle.protobuf.specs.declared.Checked.TheVariants as checked
 use Rattle.protobuf.specs.Walk.{between}
 use Rattle.schema.specs.Accept.{accept_of}
-use Rattle.ids.specs.declared.MessageAt.{MessageAt}
-use Rattle.ids.specs.declared.MessageAt.TheVariants as found
 use Rattle.ids.specs.Ids.{message_at}
 use Rattle.admission.specs.Flags.{allows_unsigned}
 use Rattle.admission.specs.Admission.{is_signed}
@@ -19,8 +15,9 @@ use Rattle.admission.specs.FlagLaws.{admission_was, admission_off}
 use Rattle.seen.specs.Entries.{holds, inserted, live}
 use Rattle.mcache.specs.Messages.{put}
 use Rattle.node.specs.declared.Node.{Node}
-use Rattle.node.specs.declared.Fault.{Fault}
-use Rattle.node.specs.declared.Admit.TheVariants as admit
+use Rattle.protobuf.specs.declared.Refusal.{Refusal}
+use Rattle.basis.specs.declared.Fault.{Fault}
+use Rattle.node.specs.declared.AdmitError.TheVariants as admit
 use Rattle.node.specs.Gateway.{Gateway, form_of, is_new, after_admit, lacking}
 use Rattle.node.specs.Calls.{lent_of, on_lent, Plan, no, plan_fit, plan_at, plan_body, planned, unseen_from, known_in}
 use Rattle.node.specs.Laws.{Takes}
@@ -65,18 +62,18 @@ lacking_off g [] h = refl
 lacking_off g (i ∷ is) h = rw (knows_off g i h, lacking_off g is h)
 
 -- ---- of the calls: what an admit takes
-abbrev pub plan_at_was : Node → ℕ → Bool → List ℕ → MessageAt → Plan
-plan_at_was n at word body (found.Count k) = no (admit.NoMessage k)
-plan_at_was n at word body (found.At a e) =
+abbrev pub plan_at_was : Node → ℕ → Bool → List ℕ → Result (ℕ × ℕ) ℕ → Plan
+plan_at_was n at word body (Err k) = no (Err (admit.NoMessage k))
+plan_at_was n at word body (Ok (a, e)) =
     plan_fit n at (between body a e) (admission_was (mode_of n.cache.flags) (between body a e) word)
 
-abbrev pub plan_body_was : Node → ℕ → Bool → List ℕ → ℕ → Checked → Plan
-plan_body_was n at word body i (checked.Refused why) = no (admit.Refused why)
-plan_body_was n at word body i checked.Fine = plan_at_was n at word body (message_at (mode_of n.cache.flags) body i)
+abbrev pub plan_body_was : Node → ℕ → Bool → List ℕ → ℕ → Result (Unit {0}) Refusal → Plan
+plan_body_was n at word body i (Err why) = no (Err (admit.Refused why))
+plan_body_was n at word body i (Ok _) = plan_at_was n at word body (message_at (mode_of n.cache.flags) body i)
 
 unfoldable pub planned_was : Node → List ℕ → List ℕ → Edition → List ℕ → ℕ → Bool → ℕ → Plan
 planned_was n ss cs ed body i word at =
-    on_lent (λ (why : Fault). no (admit.Faulty why)) (lent_of n ss cs)
+    on_lent (λ (why : Fault). no (Err (admit.Faulty why))) (lent_of n ss cs)
     (plan_body_was n at word body i (accept_of (spoken (mode_of n.cache.flags) ed) body))
 
 unfoldable pub unseen_was : List (List ℕ) → List (List ℕ) → List (List ℕ)
@@ -84,15 +81,15 @@ unseen_was seen [] = []
 unseen_was seen (i ∷ is) = cond (among (1 ∷ i) seen) (unseen_was seen is) (i ∷ unseen_was seen is)
 
 module _ (n : Node) (off : allows_unsigned n.cache.flags ≡ false) where
-  at_was : (at : ℕ) (word : Bool) (body : List ℕ) (r : MessageAt) → plan_at n at word body r ≡ plan_at_was n at word body r
-  at_was at word body (found.Count k) = refl
-  at_was at word body (found.At a e) =
+  at_was : (at : ℕ) (word : Bool) (body : List ℕ) (r : Result (ℕ × ℕ) ℕ) → plan_at n at word body r ≡ plan_at_was n at word body r
+  at_was at word body (Err k) = refl
+  at_was at word body (Ok (a, e)) =
       ap (plan_fit n at (between body a e)) (admission_off n.cache.flags (between body a e) word off)
 
-  body_was : (at : ℕ) (word : Bool) (body : List ℕ) (i : ℕ) (r : Checked)
+  body_was : (at : ℕ) (word : Bool) (body : List ℕ) (i : ℕ) (r : Result (Unit {0}) Refusal)
       → plan_body n at word body i r ≡ plan_body_was n at word body i r
-  body_was at word body i (checked.Refused why) = refl
-  body_was at word body i checked.Fine = at_was at word body (message_at (mode_of n.cache.flags) body i)
+  body_was at word body i (Err why) = refl
+  body_was at word body i (Ok _) = at_was at word body (message_at (mode_of n.cache.flags) body i)
 
   pub planned_off : (ss cs : List ℕ) (ed : Edition) (body : List ℕ) (i : ℕ) (word : Bool) (at : ℕ)
       → planned n ss cs ed body i word at ≡ planned_was n ss cs ed body i word at

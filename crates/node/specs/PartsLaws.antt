@@ -1,6 +1,6 @@
 -- Laws of tables of places: the parts one by one, one part more, and a part of a part; the parts at a path field by
 -- field, and how many there can be; each part once; and how many fit.
-use Rattle.std.specs.Prelude.{ℕ, zero, suc, ◌+◌, ◌-◌, ◌*◌, ◌≤◌, ◌<◌, ◌≡◌, refl, Bool, true, false, cond, not, ◌&&◌, ◌||◌, length, take, drop, get_or, set, leb, ltb}
+use Rattle.std.specs.Prelude.{Ok, Err, Some, None, ℕ, zero, suc, ◌+◌, ◌-◌, ◌*◌, ◌≤◌, ◌<◌, ◌≡◌, refl, Bool, true, false, cond, not, ◌&&◌, ◌||◌, length, take, drop, get_or, set, leb, ltb}
 use Rattle.std.proofs.Common.{sym, ap, ◌∙◌, arith, add-one, one-add, length-append, length-take, drop_of_length-le, drop-cons, drop-drop, take-take, get_or-set_same, get_or-set_other, eqb-true, ltb-true, ltb-false, leb-true, leb-false, le-leb}
 use Rattle.std.proofs.Math.Path.{ap₂}
 use mathlib.Core.List.{List, [], ◌∷◌, ◌++◌, append_assoc, append-nil}
@@ -20,8 +20,6 @@ use Rattle.rows.specs.Ids.{same_bytes, among, distinct}
 use Rattle.rows.specs.IdsLaws.{same_self, same_equal, among-append, distinct_snoc, distinct_middle}
 use Rattle.protobuf.specs.declared.Field.{Field}
 use Rattle.protobuf.specs.declared.WireError.{WireError}
-use Rattle.protobuf.specs.declared.Checked.TheVariants.{Fine}
-use Rattle.protobuf.specs.declared.Step.TheVariants as step
 use Rattle.protobuf.specs.Field.{read_field}
 use Rattle.protobuf.specs.Walk.{Fields, end, refused, ◌then◌, walk_at, fields_of, between, is_bytes, value_in}
 use Rattle.protobuf.specs.WalkLaws.{walk_on, walk_end}
@@ -32,7 +30,6 @@ use Rattle.schema.specs.declared.Kind.TheVariants as kind
 use Rattle.schema.specs.declared.Form.{Form}
 use Rattle.schema.specs.declared.Form.TheVariants.{Anew, Merged}
 use Rattle.schema.specs.declared.Role.TheVariants.{MessageId, Sub}
-use Rattle.schema.specs.declared.Counted.TheVariants.{Records}
 use Rattle.schema.specs.Schema.{role_of, own_of}
 use Rattle.schema.specs.Count.{role_count, count_along, counted}
 use Rattle.schema.specs.CountLaws.{count_along_lem, plus-fits, then-fits}
@@ -155,22 +152,22 @@ unfolding at_path
 path-all mode [] s h = absurd (omega arith)
 path-all mode (n ∷ ns) s h = refl
 
-pub path-field : (mode : Mode) (path s : List ℕ) (at : ℕ) (f : Field) → step.At f ≡ read_field mode s at
+pub path-field : (mode : Mode) (path s : List ℕ) (at : ℕ) (f : Field) → Ok (Some f) ≡ read_field mode s at
     → rest_at mode path s at ≡ field_parts mode path s f ++ rest_at mode path s f.next
 path-field mode path s at f h =
     ap (λ (w : Fields). in_each (at_path mode (drop 1 path)) (values_along (get_or path 0 0) s w))
-    (walk_on mode s at (step.At f) h)
+    (walk_on mode s at (Ok (Some f)) h)
     ∙ either (is_bytes (get_or path 0 0) f) (λ t. simp t) (λ t. simp t)
 
-pub path-end : (mode : Mode) (path s : List ℕ) (at : ℕ) → step.End ≡ read_field mode s at → rest_at mode path s at ≡ []
+pub path-end : (mode : Mode) (path s : List ℕ) (at : ℕ) → Ok None ≡ read_field mode s at → rest_at mode path s at ≡ []
 path-end mode path s at h = ap (λ (w : Fields). in_each (at_path mode (drop 1 path)) (values_along (get_or path 0 0) s w))
-    (walk_on mode s at step.End h)
+    (walk_on mode s at (Ok None) h)
 
-pub path-refused : (mode : Mode) (path s : List ℕ) (at : ℕ) (why : WireError) → step.Refused why ≡ read_field mode s at
+pub path-refused : (mode : Mode) (path s : List ℕ) (at : ℕ) (why : WireError) → Err why ≡ read_field mode s at
     → rest_at mode path s at ≡ []
 path-refused mode path s at why h = ap (λ (w : Fields). in_each (at_path mode (drop 1 path))
     (values_along (get_or path 0 0) s w))
-    (walk_on mode s at (step.Refused why) h)
+    (walk_on mode s at (Err why) h)
 
 pub path-done : (mode : Mode) (path s : List ℕ) (at : ℕ) → length s ≤ at → rest_at mode path s at ≡ []
 path-done mode path s at h = ap (λ (w : Fields). in_each (at_path mode (drop 1 path)) (values_along (get_or path 0 0) s w))
@@ -336,8 +333,8 @@ fitting-next n room (m ∷ ms) h =
 
 -- ---- a body has no more parts at a path than records
 along-counted : (mode : Mode) (k : Kind) (m : ℕ) (s : List ℕ) (g : List ℕ → List (List ℕ))
-    → ((f : Field) (x : ℕ) → role_count (counted mode) s f (role_of k m 2) ≡ Records x → length (g (value_in s f)) ≤ x)
-    → (w : Fields) (r : ℕ) → count_along (counted mode) k s w ≡ Records r → length (in_each g (values_along m s w)) ≤ r
+    → ((f : Field) (x : ℕ) → role_count (counted mode) s f (role_of k m 2) ≡ Ok x → length (g (value_in s f)) ≤ x)
+    → (w : Fields) (r : ℕ) → count_along (counted mode) k s w ≡ Ok r → length (in_each g (values_along m s w)) ≤ r
 along-counted mode k m s g h end r e = omega arith
 along-counted mode k m s g h (refused why) r e = clash (cc)
 along-counted mode k m s g h (f then w) r e =
@@ -356,8 +353,8 @@ along-counted mode k m s g h (f then w) r e =
 
 -- the field m leads into submessages, or holds the parts themselves
 pub path-sub : (mode : Mode) (k j : Kind) (form : Form) (m : ℕ) (ns : List ℕ) → role_of k m 2 ≡ Sub j form
-    → ((p : List ℕ) (x : ℕ) → counted mode j p ≡ Records x → length (at_path mode ns p) ≤ x) → (s : List ℕ) (r : ℕ)
-    → counted mode k s ≡ Records r → length (at_path mode (m ∷ ns) s) ≤ r
+    → ((p : List ℕ) (x : ℕ) → counted mode j p ≡ Ok x → length (at_path mode ns p) ≤ x) → (s : List ℕ) (r : ℕ)
+    → counted mode k s ≡ Ok r → length (at_path mode (m ∷ ns) s) ≤ r
 unfolding at_path
 path-sub mode k j form m ns q h s r e =
     along-counted mode k m s (at_path mode ns)
@@ -367,17 +364,17 @@ path-sub mode k j form m ns q h s r e =
     (fields_of mode s) r (sym (count_along_lem mode k s) ∙ e)
 
 pub path-id : (mode : Mode) (k : Kind) (m : ℕ) → role_of k m 2 ≡ MessageId → (s : List ℕ) (r : ℕ)
-    → counted mode k s ≡ Records r
+    → counted mode k s ≡ Ok r
     → length (at_path mode (m ∷ []) s) ≤ r
 unfolding at_path
 path-id mode k m q s r e =
     along-counted mode k m s (at_path mode [])
-    (λ f x c. let z : Records 1 ≡ Records x = sym (ap (role_count (counted mode) s f) q)
+    (λ f x c. let z : Ok 1 ≡ Ok x = sym (ap (role_count (counted mode) s f) q)
     ∙ c in let y : x ≡ 1 = cc in omega arith)
     (fields_of mode s) r (sym (count_along_lem mode k s) ∙ e)
 
 -- the ids of IHAVEs and of IWANTs
-pub ihave-counted : (d : Dialect) (s : List ℕ) (r : ℕ) → counted d.mode (kind.Rpc d.edition) s ≡ Records r
+pub ihave-counted : (d : Dialect) (s : List ℕ) (r : ℕ) → counted d.mode (kind.Rpc d.edition) s ≡ Ok r
     → length (at_path d.mode (3 ∷ 1 ∷ 2 ∷ []) s) ≤ r
 unfolding role_of
 ihave-counted d =
@@ -385,7 +382,7 @@ ihave-counted d =
     (path-sub d.mode (kind.ControlMessage d.edition) kind.ControlIHave Anew 1 (2 ∷ []) refl
     (path-id d.mode kind.ControlIHave 2 refl))
 
-pub iwant-counted : (d : Dialect) (s : List ℕ) (r : ℕ) → counted d.mode (kind.Rpc d.edition) s ≡ Records r
+pub iwant-counted : (d : Dialect) (s : List ℕ) (r : ℕ) → counted d.mode (kind.Rpc d.edition) s ≡ Ok r
     → length (at_path d.mode (3 ∷ 2 ∷ 1 ∷ []) s) ≤ r
 unfolding role_of
 iwant-counted d =
@@ -393,18 +390,18 @@ iwant-counted d =
     (path-sub d.mode (kind.ControlMessage d.edition) kind.ControlIWant Anew 2 (1 ∷ []) refl
     (path-id d.mode kind.ControlIWant 1 refl))
 
-pub path-counted : (d : Dialect) (s : List ℕ) (r : ℕ) → counted d.mode (kind.Rpc d.edition) s ≡ Records r
+pub path-counted : (d : Dialect) (s : List ℕ) (r : ℕ) → counted d.mode (kind.Rpc d.edition) s ≡ Ok r
     → (length (at_path d.mode (3 ∷ 1 ∷ 2 ∷ []) s) ≤ r) × (length (at_path d.mode (3 ∷ 2 ∷ 1 ∷ []) s) ≤ r)
 path-counted d s r e = (ihave-counted d s r e, iwant-counted d s r e)
 
-pub path-accepted : (d : Dialect) (s : List ℕ) → accept_of d s ≡ Fine
+pub path-accepted : (d : Dialect) (s : List ℕ) → accept_of d s ≡ Ok tt
     → (length (at_path d.mode (3 ∷ 1 ∷ 2 ∷ []) s) ≤ 512)
     × (length (at_path d.mode (3 ∷ 2 ∷ 1 ∷ []) s) ≤ 512)
 path-accepted d s h = let t = accept_records d s h in let p = path-counted d s t.0 t.1 in let m = t.2 in
     (omega arith, omega arith)
 
 -- and of IDONTWANTs, which only 1.2 has
-pub idontwant-counted : (mode : Mode) (s : List ℕ) (r : ℕ) → counted mode (kind.Rpc V12) s ≡ Records r
+pub idontwant-counted : (mode : Mode) (s : List ℕ) (r : ℕ) → counted mode (kind.Rpc V12) s ≡ Ok r
     → length (at_path mode (3 ∷ 5 ∷ 1 ∷ []) s) ≤ r
 unfolding role_of
 idontwant-counted mode =
@@ -412,7 +409,7 @@ idontwant-counted mode =
     (path-sub mode (kind.ControlMessage V12) kind.ControlIDontWant Anew 5 (1 ∷ []) refl
     (path-id mode kind.ControlIDontWant 1 refl))
 
-pub idontwant-accepted : (mode : Mode) (s : List ℕ) → accept_of (spoken mode V12) s ≡ Fine
+pub idontwant-accepted : (mode : Mode) (s : List ℕ) → accept_of (spoken mode V12) s ≡ Ok tt
     → length (at_path mode (3 ∷ 5 ∷ 1 ∷ []) s) ≤ 512
 idontwant-accepted mode s h =
     let t = accept_records (spoken mode V12) s h in

@@ -1,5 +1,5 @@
 -- Short theorems on the node, for readers: what is ruled out, and what the easy errors would get wrong.
-use Rattle.std.specs.Prelude.{ℕ, ◌+◌, ◌-◌, ◌^◌, ◌<◌, ◌≡◌, refl, List, [], ◌∷◌, ◌++◌, Bool, true, false, ◌&&◌, length, drop, leb}
+use Rattle.std.specs.Prelude.{Result, Ok, Err, ℕ, ◌+◌, ◌-◌, ◌^◌, ◌<◌, ◌≡◌, refl, List, [], ◌∷◌, ◌++◌, Bool, true, false, ◌&&◌, length, drop, leb}
 use Rattle.std.proofs.Math.Path.{sym, ap}
 use Rattle.std.proofs.Common.{◌∙◌, arith, drop_of_length-le}
 use Rattle.std.proofs.lemmas.List.{map-append}
@@ -20,15 +20,11 @@ use Rattle.mcache.specs.Messages.{Cached, held, put, shift, get}
 use Rattle.mcache.specs.Messages as messages
 use Rattle.rows.specs.RowsLaws.{newest-more}
 use Rattle.mcache.specs.CachedLaws.{new}
-use Rattle.protobuf.specs.declared.Checked.{Checked}
-use Rattle.protobuf.specs.declared.Checked.TheVariants as checked
 use Rattle.protobuf.specs.Walk.{between}
 use Rattle.rpc.specs.Rpc.{Rpc}
 use Rattle.rpc.specs.Encode.{encode_rpc}
-use Rattle.ids.specs.declared.MessageAt.TheVariants as found
 use Rattle.schema.specs.Accept.{accept_of}
 use Rattle.ids.specs.Ids.{message_at, id_bytes}
-use Rattle.admission.specs.declared.Admission.TheVariants as admission
 use Rattle.admission.specs.Flags.{allows_unsigned}
 use Rattle.admission.specs.Admission.{admission_of, is_signed}
 use Rattle.admission.specs.AdmissionLaws.{fit-signed}
@@ -37,13 +33,12 @@ use Rattle.seen.specs.EntriesLaws.{length-entries}
 use Rattle.seen.specs.Laws.{well_formed-exactly as seen-exactly}
 use Rattle.mcache.specs.State.{cached_in}
 use Rattle.node.specs.declared.Node.{Node}
-use Rattle.node.specs.declared.Lent.{Lent}
-use Rattle.node.specs.declared.Lent.TheVariants as lent
-use Rattle.node.specs.declared.Admit.TheVariants as admit
-use Rattle.node.specs.declared.Beat.TheVariants as beat
 use Rattle.node.specs.declared.Advertised.{Advertised}
 use Rattle.node.specs.declared.Asked.{Asked}
 use Rattle.node.specs.declared.Served.{Served}
+use Rattle.protobuf.specs.declared.Refusal.{Refusal}
+use Rattle.basis.specs.declared.Fault.{Fault}
+use Rattle.node.specs.declared.Novelty.TheVariants as novelty
 use Rattle.node.specs.State.{gateway_in}
 use Rattle.node.specs.Calls.{lent_of, when_fine, taken, planned, admit_answer, admit_node, admit_seen, admit_cache}
 use Rattle.node.specs.Calls.{beat_answer, beat_node, bytes_for, advertise_answer, offered, unseen_of, ask_bytes}
@@ -125,7 +120,7 @@ form-known g id false on h = rw (on refl, h) (or-true (holds (marked true id) g.
 -- the same of the calls: after an admit that answers new, the id is not asked for, and its message is served
 module _ (n : Node) (ss cs : List ℕ) (ed : Edition) (body : List ℕ) (i : ℕ) (word : Bool) (at : ℕ) (m id : List ℕ)
     (typed : Typed n) (plan : planned n ss cs ed body i word at ≡ taken m id)
-    (says : admit_answer n ss at (planned n ss cs ed body i word at) ≡ admit.New)
+    (says : admit_answer n ss at (planned n ss cs ed body i word at) ≡ Ok novelty.New)
   where
     was_new : is_new at m id (gateway_in n ss cs) ≡ true
     was_new =
@@ -237,15 +232,15 @@ served_bytes n ss cs ed body second out =
     []
 
 module _ (n : Node) (ss cs : List ℕ) (ed : Edition) (body second : List ℕ) where
-  writes-by : (out : List ℕ) (l : Lent) (r q : Checked) → lent_of n ss cs ≡ l
+  writes-by : (out : List ℕ) (l : Result (Unit {0}) Fault) (r q : Result (Unit {0}) Refusal) → lent_of n ss cs ≡ l
       → accept_of (spoken (mode_of n.cache.flags) ed) body ≡ r
       → accept_of (spoken (mode_of n.cache.flags) V12) second ≡ q
       → serve_left n ss cs ed body second out ≡ sets out 0 (served_bytes n ss cs ed body second out)
   unfolding serve_left served_bytes
-  writes-by out (lent.Faulty why) r q e a b = rw e
-  writes-by out lent.Fine (checked.Refused why) q e a b = rw (e, a)
-  writes-by out lent.Fine checked.Fine (checked.Refused why) e a b = rw (e, a, b)
-  writes-by out lent.Fine checked.Fine checked.Fine e a b = rw (e, a, b)
+  writes-by out (Err why) r q e a b = rw e
+  writes-by out (Ok _) (Err why) q e a b = rw (e, a)
+  writes-by out (Ok _) (Ok _) (Err why) e a b = rw (e, a, b)
+  writes-by out (Ok _) (Ok _) (Ok _) e a b = rw (e, a, b)
 
   pub serve-writes : (out : List ℕ)
       → serve_left n ss cs ed body second out ≡ sets out 0 (served_bytes n ss cs ed body second out)
@@ -295,20 +290,20 @@ line_8_new m id = refl
 
 -- ---- readings at the edge
 -- a second heartbeat at the same reading is taken
-pub beat-twice-done : (n : Node) (ss cs : List ℕ) (at : ℕ) → Typed n → beat_answer n ss cs at ≡ beat.Done
-    → beat_answer (beat_node n ss cs at) ss cs at ≡ beat.Done
+pub beat-twice-done : (n : Node) (ss cs : List ℕ) (at : ℕ) → Typed n → beat_answer n ss cs at ≡ Ok tt
+    → beat_answer (beat_node n ss cs at) ss cs at ≡ Ok tt
 beat-twice-done n ss cs at typed h = beat-says (beat_node n ss cs at) ss cs at (beat-fine n ss cs at typed h)
     (omega (arith, beat-clock n ss cs at h))
 
 -- the last reading, 2^64 - 1, is taken: by a heartbeat, and by an admit
-pub last-beat : (n : Node) (ss cs : List ℕ) → lent_of n ss cs ≡ lent.Fine → n.clock < 2 ^ 64
-    → beat_answer n ss cs (2 ^ 64 - 1) ≡ beat.Done
+pub last-beat : (n : Node) (ss cs : List ℕ) → lent_of n ss cs ≡ Ok tt → n.clock < 2 ^ 64
+    → beat_answer n ss cs (2 ^ 64 - 1) ≡ Ok tt
 last-beat n ss cs fine h = beat-says n ss cs (2 ^ 64 - 1) fine (omega arith)
 
 pub last-admit : (n : Node) (ss cs : List ℕ) (ed : Edition) (body : List ℕ) (i a e x y z w : ℕ)
-    → lent_of n ss cs ≡ lent.Fine → accept_of (spoken (mode_of n.cache.flags) ed) body ≡ checked.Fine
-    → message_at (mode_of n.cache.flags) body i ≡ found.At a e
-    → admission_of n.cache.flags (between body a e) true ≡ admission.Fit x y z w → n.clock < 2 ^ 64
+    → lent_of n ss cs ≡ Ok tt → accept_of (spoken (mode_of n.cache.flags) ed) body ≡ Ok tt
+    → message_at (mode_of n.cache.flags) body i ≡ Ok (a, e)
+    → admission_of n.cache.flags (between body a e) true ≡ Ok ((x, y), (z, w)) → n.clock < 2 ^ 64
     → planned n ss cs ed body i true (2 ^ 64 - 1) ≡ taken (between body a e) (id_bytes (between body a e) x y z w)
 last-admit n ss cs ed body i a e x y z w fine ok there fit h =
     plan_taken n ss cs ed body i (2 ^ 64 - 1) a e x y z w fine ok there fit (omega arith)
@@ -320,7 +315,7 @@ unfolding is_new after_admit inserted live holds among newest
 none_seen at m id g z e = rw (e, z) (refl, refl)
 
 -- of a node that passes, with max_seen 0
-pub no_room-none_seen : (n : Node) (ss cs : List ℕ) → lent_of n ss cs ≡ lent.Fine → n.max_seen ≡ 0
+pub no_room-none_seen : (n : Node) (ss cs : List ℕ) → lent_of n ss cs ≡ Ok tt → n.max_seen ≡ 0
     → (gateway_in n ss cs).seen ≡ []
 unfolding gateway_in
 no_room-none_seen n ss cs fine z =
@@ -332,7 +327,7 @@ no_room-none_seen n ss cs fine z =
 
 pub no_room-admit : (n : Node) (ss cs : List ℕ) (ed : Edition) (body : List ℕ) (i : ℕ) (word : Bool) (at : ℕ)
     (m id : List ℕ) → Typed n → planned n ss cs ed body i word at ≡ taken m id → n.max_seen ≡ 0
-    → (admit_answer n ss at (planned n ss cs ed body i word at) ≡ admit.New)
+    → (admit_answer n ss at (planned n ss cs ed body i word at) ≡ Ok novelty.New)
     × ((gateway_in (admit_node n ss at (planned n ss cs ed body i word at))
     (admit_seen n ss at (planned n ss cs ed body i word at))
     (admit_cache n ss cs at (planned n ss cs ed body i word at))).seen ≡ [])

@@ -1,22 +1,19 @@
 -- Laws of the test for a node and its stores: what a fine answer says, part by part, and that it is enough; and that
 -- such a node is ready for the steps.
-use Rattle.std.specs.Prelude.{ℕ, ◌*◌, ◌/◌, ◌%◌, ◌≤◌, ◌≡◌, List, true, length, leb, ltb, eqb}
+use Rattle.std.specs.Prelude.{Ok, ℕ, ◌*◌, ◌/◌, ◌%◌, ◌≤◌, ◌≡◌, List, true, length, leb, ltb, eqb}
 use Rattle.std.proofs.Common.{arith}
 use borrow.Author.Tests.{le-leb, leb-true, le-ltb, eqb-true, eq-eqb}
 use Rattle.basis.specs.Cases.{either, clash, both}
 use Rattle.rows.specs.Store.{Sound, in_use}
-use Rattle.seen.specs.declared.Lent.TheVariants as seenLent
 use Rattle.seen.specs.State.{well_formed as seenWellFormed, id_size, max_ids}
 use Rattle.seen.specs.Calls.{cap_of, whole_rows, lent_of as seenLentOf}
 use Rattle.seen.specs.WellFormed as seen
 use Rattle.seen.specs.Laws.{lent-sound}
-use Rattle.mcache.specs.declared.Lent.TheVariants as cacheLent
 use Rattle.mcache.specs.State.{well_formed as cacheWellFormed, message_size}
 use Rattle.mcache.specs.Calls.{lent_of as cacheLentOf}
 use Rattle.mcache.specs.WellFormed as mcache
 use Rattle.mcache.specs.StateLaws.{lent-kept}
 use Rattle.node.specs.declared.Node.{Node}
-use Rattle.node.specs.declared.Lent.TheVariants as lent
 use Rattle.node.specs.State.{rises_from, seen_fits, well_formed, Ready, seen_ring}
 use Rattle.node.specs.Calls.{right_sizes, lent_of}
 
@@ -24,9 +21,9 @@ use Rattle.node.specs.Calls.{right_sizes, lent_of}
 pub record Tests (n : Node) (ss cs : List ℕ) : Type 0 where
   pub room : length ss ≡ n.max_seen * id_size
   pub few : n.max_seen ≤ max_ids
-  pub ids : seenLentOf n.seen ss ≡ seenLent.Fine
+  pub ids : seenLentOf n.seen ss ≡ Ok tt
   pub rises : rises_from 0 (in_use (seen_ring n) n.seen.expiry) ≡ true
-  pub messages : cacheLentOf n.cache cs ≡ cacheLent.Fine
+  pub messages : cacheLentOf n.cache cs ≡ Ok tt
 
 -- a store of max_seen rows
 pub room_cap : (n : Node) (ss : List ℕ) → length ss ≡ n.max_seen * id_size → cap_of ss ≡ n.max_seen
@@ -39,7 +36,7 @@ unfolding whole_rows cap_of
 room_whole n ss h f =
     simp (eq-eqb (length ss % id_size) 0 (omega arith), le-leb (length ss / id_size) max_ids (omega arith))
 
-fine-parts : (n : Node) (ss cs : List ℕ) → lent_of n ss cs ≡ lent.Fine → (right_sizes n ss cs ≡ true)
+fine-parts : (n : Node) (ss cs : List ℕ) → lent_of n ss cs ≡ Ok tt → (right_sizes n ss cs ≡ true)
     × (well_formed n ss cs ≡ true)
 unfolding lent_of
 fine-parts n ss cs h =
@@ -49,7 +46,7 @@ fine-parts n ss cs h =
     (λ u. clash (let z = simp (t, u) at h in cc)))
 
 module _ (n : Node) (ss cs : List ℕ) where
-  pub fine-tests : lent_of n ss cs ≡ lent.Fine → Tests n ss cs
+  pub fine-tests : lent_of n ss cs ≡ Ok tt → Tests n ss cs
   unfolding right_sizes well_formed seen_fits seenLentOf cacheLentOf
   fine-tests h =
       let f = fine-parts n ss cs h in
@@ -68,7 +65,7 @@ module _ (n : Node) (ss cs : List ℕ) where
       }
 
   -- a state that passes is ready for the steps
-  pub lent_ready : lent_of n ss cs ≡ lent.Fine → seen.Sized n.seen → mcache.Sized n.cache → Ready n ss cs
+  pub lent_ready : lent_of n ss cs ≡ Ok tt → seen.Sized n.seen → mcache.Sized n.cache → Ready n ss cs
   lent_ready h z y =
       let t = fine-tests h in
       let s : Sound id_size (seen_ring n) n.seen.len ss =
@@ -82,7 +79,7 @@ module _ (n : Node) (ss cs : List ℕ) where
         kept = lent-kept n.cache cs t.messages y;
       }
 
-seen_parts : (n : Node) (ss : List ℕ) → length ss ≡ n.max_seen * id_size → seenLentOf n.seen ss ≡ seenLent.Fine
+seen_parts : (n : Node) (ss : List ℕ) → length ss ≡ n.max_seen * id_size → seenLentOf n.seen ss ≡ Ok tt
     → seenWellFormed n.max_seen n.seen ss ≡ true
 unfolding seenLentOf
 seen_parts n ss r h =
@@ -91,7 +88,7 @@ seen_parts n ss r h =
     (λ u. clash (let z = simp (t, u) at h in cc)))
     (λ t. clash (let z = simp t at h in cc))
 
-cache-parts : (n : Node) (cs : List ℕ) → cacheLentOf n.cache cs ≡ cacheLent.Fine
+cache-parts : (n : Node) (cs : List ℕ) → cacheLentOf n.cache cs ≡ Ok tt
     → (eqb (length cs) (n.cache.max_messages * message_size) ≡ true) × (cacheWellFormed n.cache cs ≡ true)
 unfolding cacheLentOf
 cache-parts n cs h =
@@ -100,7 +97,7 @@ cache-parts n cs h =
     (λ t. clash (let z = simp t at h in cc))
 
 -- and that it is enough
-pub tests-fine : (n : Node) (ss cs : List ℕ) → Tests n ss cs → lent_of n ss cs ≡ lent.Fine
+pub tests-fine : (n : Node) (ss cs : List ℕ) → Tests n ss cs → lent_of n ss cs ≡ Ok tt
 unfolding lent_of right_sizes well_formed seen_fits
 tests-fine n ss cs t =
     let c = cache-parts n cs t.messages in

@@ -1,7 +1,7 @@
 -- The test of a lent node asks exactly what the clauses of WellFormed say, and every state that the calls reach passes
 -- it.
 use Prim.Native.Nat.{ℕ, zero, suc, ◌-◌, ◌*◌, ◌≤◌, ◌<◌}
-use Rattle.std.specs.Prelude.{◌≡◌, List, [], ◌∷◌, ◌++◌, map, Bool, true, cond, ◌&&◌, ◌↔◌, drop, get_or, leb}
+use Rattle.std.specs.Prelude.{Result, Ok, Err, ◌≡◌, List, [], ◌∷◌, ◌++◌, map, Bool, true, cond, ◌&&◌, ◌↔◌, drop, get_or, leb}
 use Rattle.std.proofs.Math.Path.{refl}
 use Rattle.std.proofs.Common.{◌∙◌, arith, zero-lt-suc, le-leb, leb-true}
 use Rattle.std.proofs.lemmas.List.{map-append}
@@ -16,7 +16,6 @@ use Rattle.rows.specs.ListLaws.{map-drop}
 use Rattle.rows.specs.Store.{in_use, all_up_to}
 use Rattle.admission.specs.Admission.{topic_places, gives_id}
 use Rattle.seen.specs.declared.SeenCache.{SeenCache}
-use Rattle.seen.specs.declared.Lent.TheVariants as seenLent
 use Rattle.seen.specs.Entries.{Entry, holds, until, inserted, live}
 use Rattle.seen.specs.State.{entries_in, id_size, max_ids}
 use Rattle.seen.specs.Calls.{lent_of as seenLentOf, insert_cache, insert_store}
@@ -25,7 +24,6 @@ use Rattle.seen.specs.EntriesLaws.{until-later, expiries-entries}
 use Rattle.seen.specs.Laws.{fresh-fine, fresh-sized, insert_fine, insert_sized, insert_length}
 use Rattle.seen.specs.Laws.{well_formed-exactly as seen-exactly}
 use Rattle.mcache.specs.declared.MessageCache.{MessageCache}
-use Rattle.mcache.specs.declared.Lent.TheVariants as cacheLent
 use Rattle.mcache.specs.State.{legal, message_in, table_of, topics_at, message_size, message_id_size}
 use Rattle.mcache.specs.WellFormed.{row_of, Typed as cacheTyped}
 use Rattle.mcache.specs.Calls.{lent_of as cacheLentOf, kept_under, shifted}
@@ -33,9 +31,8 @@ use Rattle.mcache.specs.FineLaws.{upto-drop, upto_snoc, fresh-first, fresh-typed
 use Rattle.mcache.specs.FineLaws.{shifted-typed, under-fine, under-typed}
 use Rattle.mcache.specs.WellFormedLaws.{fine-well_formed, well_formed-fine}
 use Rattle.node.specs.declared.Node.{Node}
-use Rattle.node.specs.declared.Lent.TheVariants as lent
-use Rattle.node.specs.declared.Beat.{Beat}
-use Rattle.node.specs.declared.Beat.TheVariants as beat
+use Rattle.node.specs.declared.BeatError.TheVariants as beat
+use Rattle.node.specs.declared.BeatError.{BeatError}
 use Rattle.node.specs.Gateway.{Gateway, form_of, started, after_admit, after_beat}
 use Rattle.node.specs.State.{gateway_in, legal_settings, fresh_node, rises_from, seen_ring}
 use Rattle.node.specs.Calls.{lent_of, later_node, Plan, no, taken, planned, swept, held_at, admit_node, admit_seen}
@@ -87,7 +84,7 @@ module _ (l : List ℕ) (ring : Ring) where
 
 -- ---- well formed, exactly
 module _ (n : Node) (ss cs : List ℕ) where
-  pub fine-well_formed-node : Typed n → lent_of n ss cs ≡ lent.Fine → WellFormed n ss cs
+  pub fine-well_formed-node : Typed n → lent_of n ss cs ≡ Ok tt → WellFormed n ss cs
   fine-well_formed-node y f =
       let t = fine-tests n ss cs f in
       record {
@@ -98,7 +95,7 @@ module _ (n : Node) (ss cs : List ℕ) where
         messages = fine-well_formed n.cache cs y.messages t.messages;
       }
 
-  pub well_formed-node-fine : WellFormed n ss cs → lent_of n ss cs ≡ lent.Fine
+  pub well_formed-node-fine : WellFormed n ss cs → lent_of n ss cs ≡ Ok tt
   well_formed-node-fine w =
       tests-fine n ss cs
       record {
@@ -109,7 +106,7 @@ module _ (n : Node) (ss cs : List ℕ) where
         messages = well_formed-fine n.cache cs w.messages;
       }
 
-  pub well_formed-exactly : Typed n → (lent_of n ss cs ≡ lent.Fine) ↔ WellFormed n ss cs
+  pub well_formed-exactly : Typed n → (lent_of n ss cs ≡ Ok tt) ↔ WellFormed n ss cs
   well_formed-exactly y = (fine-well_formed-node y, well_formed-node-fine)
 
 -- ---- the ids seen are in the order of their expiries, and none expires later than one that comes now
@@ -238,14 +235,14 @@ entries_rise n ss cs o = rw (← expiries-entries n.max_seen n.seen ss) o.rises
 
 -- what is kept
 pub record Keeps (n : Node) (ss cs : List ℕ) : Type 0 where
-  pub fine : lent_of n ss cs ≡ lent.Fine
+  pub fine : lent_of n ss cs ≡ Ok tt
   pub typed : Typed n
   pub ordered : Ordered (gateway_in n ss cs)
 
 later-fine : (n : Node) (ss cs ss2 cs2 : List ℕ) (at : ℕ) (c : SeenCache) (d : MessageCache) → Tests n ss cs
-    → length ss2 ≡ length ss → seenLentOf c ss2 ≡ seenLent.Fine
-    → rises_from 0 (expiries_of (entries_in n.max_seen c ss2)) ≡ true → cacheLentOf d cs2 ≡ cacheLent.Fine
-    → lent_of (later_node at c d n) ss2 cs2 ≡ lent.Fine
+    → length ss2 ≡ length ss → seenLentOf c ss2 ≡ Ok tt
+    → rises_from 0 (expiries_of (entries_in n.max_seen c ss2)) ≡ true → cacheLentOf d cs2 ≡ Ok tt
+    → lent_of (later_node at c d n) ss2 cs2 ≡ Ok tt
 unfolding later_node
 later-fine n ss cs ss2 cs2 at c d t e f r g =
     tests-fine (later_node at c d n) ss2 cs2
@@ -295,7 +292,7 @@ begun-keeps ttl max_seen history max flags ss cs l r s =
     }
 
 -- what an admit leaves, as the seen cache's insert and the message cache's put leave it
-module _ (n : Node) (ss cs : List ℕ) (at : ℕ) (m id : List ℕ) (typed : Typed n) (fine : lent_of n ss cs ≡ lent.Fine)
+module _ (n : Node) (ss cs : List ℕ) (at : ℕ) (m id : List ℕ) (typed : Typed n) (fine : lent_of n ss cs ≡ Ok tt)
     (k : length id ≤ message_id_size) where
   abbrev seen_after : SeenCache
   seen_after = insert_cache n.max_seen at n.ttl (swept n at) ss (form_of (mode_of n.cache.flags) m id)
@@ -322,7 +319,7 @@ module _ (n : Node) (ss cs : List ℕ) (at : ℕ) (m id : List ℕ) (typed : Typ
       let t = fine-tests n ss cs fine in
       let f = swept-fine n ss cs fine at typed.ids in
       let z = swept-sized n ss cs fine at typed.ids in
-      let stores : cacheLentOf cache_after (admit_cache n ss cs at (taken m id)) ≡ cacheLent.Fine =
+      let stores : cacheLentOf cache_after (admit_cache n ss cs at (taken m id)) ≡ (Ok tt) =
       either (held_at n ss at (form_of (mode_of n.cache.flags) m id)) (λ u. rw u t.messages)
       (λ u. rw u (under-fine n.cache cs m id t.messages typed.messages.sized small k own)) in
       let types : cacheTyped cache_after = either (held_at n ss at (form_of (mode_of n.cache.flags) m id))
@@ -370,8 +367,8 @@ rises-live at (e ∷ es) r =
     (both (leb 0 e.expiry) (rises_from e.expiry (expiries_of es)) r).1)))
     (λ t. rw t r)
 
-module _ (n : Node) (ss cs : List ℕ) (at : ℕ) (typed : Typed n) (done : beat_answer n ss cs at ≡ beat.Done) where
-  pub beat-fine : lent_of (beat_node n ss cs at) ss cs ≡ lent.Fine
+module _ (n : Node) (ss cs : List ℕ) (at : ℕ) (typed : Typed n) (done : beat_answer n ss cs at ≡ Ok tt) where
+  pub beat-fine : lent_of (beat_node n ss cs at) ss cs ≡ Ok tt
   unfolding beat_node
   beat-fine =
       let f = (beat-done n ss cs at done).0 in
@@ -390,12 +387,12 @@ module _ (n : Node) (ss cs : List ℕ) (at : ℕ) (typed : Typed n) (done : beat
       (swept-sized n ss cs (beat-done n ss cs at done).0 at typed.ids)
       (shifted-typed n.cache typed.messages))
 
-pub beaten-keeps : (n : Node) (ss cs : List ℕ) (at : ℕ) → Keeps n ss cs → (r : Beat) → beat_answer n ss cs at ≡ r
+pub beaten-keeps : (n : Node) (ss cs : List ℕ) (at : ℕ) → Keeps n ss cs → (r : Result (Unit {0}) BeatError) → beat_answer n ss cs at ≡ r
     → Keeps (beat_node n ss cs at) ss cs
 unfolding beat_node
-beaten-keeps n ss cs at k (beat.Faulty why) e = rw e k
-beaten-keeps n ss cs at k (beat.ClockBack clock) e = rw e k
-beaten-keeps n ss cs at k beat.Done e =
+beaten-keeps n ss cs at k (Err (beat.Faulty why)) e = rw e k
+beaten-keeps n ss cs at k (Err (beat.ClockBack clock)) e = rw e k
+beaten-keeps n ss cs at k (Ok _) e =
     record {
       fine = beat-fine n ss cs at k.typed e;
       typed = beat-typed n ss cs at k.typed e;
@@ -410,7 +407,7 @@ reached_keeps (admitted {n} {ss} {cs} r ed body i word at h) =
     admitted-keeps n ss cs ed body i word at (reached_keeps r) (planned n ss cs ed body i word at) refl
 reached_keeps (beaten {n} {ss} {cs} r at h) = beaten-keeps n ss cs at (reached_keeps r) (beat_answer n ss cs at) refl
 
-pub reached_fine : {n : Node} {ss cs : List ℕ} → Reached n ss cs → lent_of n ss cs ≡ lent.Fine
+pub reached_fine : {n : Node} {ss cs : List ℕ} → Reached n ss cs → lent_of n ss cs ≡ Ok tt
 reached_fine r = (reached_keeps r).fine
 
 pub reached_typed : {n : Node} {ss cs : List ℕ} → Reached n ss cs → Typed n

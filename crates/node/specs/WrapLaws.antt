@@ -1,25 +1,18 @@
 -- No answer of a node depends on where the arrival number stands: each call answers the same from a node whose arrival
 -- numbers stand k further, leaves the same stores and buffer, and leaves the node that stands k further.
-use Rattle.std.specs.Prelude.{ℕ, ◌*◌, ◌≡◌, List, Bool, true, false, cond, length, eqb}
+use Rattle.std.specs.Prelude.{Result, Ok, Err, ℕ, ◌*◌, ◌≡◌, List, Bool, true, false, cond, length, eqb}
 use Rattle.std.proofs.Math.Path.{refl, sym, ap}
 use Rattle.std.proofs.Common.{◌∙◌, arith}
 use Rattle.basis.specs.declared.Edition.{Edition}
 use Rattle.basis.specs.Dialect.{mode_of, spoken}
 use Rattle.basis.specs.Cases.{either, clash, both}
-use Rattle.protobuf.specs.declared.Checked.{Checked}
-use Rattle.protobuf.specs.declared.Checked.TheVariants as checked
 use Rattle.protobuf.specs.Walk.{between}
 use Rattle.schema.specs.Accept.{accept_of}
-use Rattle.ids.specs.declared.MessageAt.{MessageAt}
-use Rattle.ids.specs.declared.MessageAt.TheVariants as found
 use Rattle.ids.specs.Ids.{message_at}
-use Rattle.admission.specs.declared.Admission.{Admission}
-use Rattle.admission.specs.declared.Admission.TheVariants as admission
 use Rattle.admission.specs.Admission.{admission_of}
 use Rattle.seen.specs.State.{id_size}
 use Rattle.seen.specs.Laws.{insert_sized}
 use Rattle.mcache.specs.declared.MessageCache.{MessageCache}
-use Rattle.mcache.specs.declared.Lent.TheVariants as cacheLent
 use Rattle.mcache.specs.State.{well_formed as cacheWellFormed, message_size}
 use Rattle.mcache.specs.Calls.{lent_of as cacheLentOf, index_in, plan_under, kept_in, stored_in, kept_under, stored_under}
 use Rattle.mcache.specs.Calls.{Plan as PutPlan, planned as putPlanned, shifted, shift_cache, gossip_list, offer_at, offer_in}
@@ -27,9 +20,12 @@ use Rattle.mcache.specs.WellFormed.{Typed as cacheTyped}
 use Rattle.mcache.specs.FineLaws.{under-typed}
 use Rattle.mcache.specs.WrapLaws.{moved, wrap_free, wrap_free-put, wrap_free-kept, wrap_free-stored, wrap_free-shift}
 use Rattle.node.specs.declared.Node.{Node}
-use Rattle.node.specs.declared.Lent.TheVariants as lent
-use Rattle.node.specs.declared.Beat.{Beat}
-use Rattle.node.specs.declared.Beat.TheVariants as beat
+use Rattle.protobuf.specs.declared.Refusal.{Refusal}
+use Rattle.admission.specs.declared.Unfit.{Unfit}
+use Rattle.basis.specs.declared.Fault.{Fault}
+use Rattle.basis.specs.declared.Fault.TheVariants as fault
+use Rattle.node.specs.declared.BeatError.TheVariants as beat
+use Rattle.node.specs.declared.BeatError.{BeatError}
 use Rattle.node.specs.Gateway.{form_of}
 use Rattle.node.specs.State.{well_formed, seen_fits}
 use Rattle.node.specs.Calls.{right_sizes, lent_of, later_node, Plan, no, taken, plan_fit, plan_at, plan_body, planned}
@@ -54,8 +50,8 @@ moved_node k n =
     }
 
 -- ---- the test
-inner_same : (a b : Bool) → cond a cacheLent.Fine cacheLent.Malformed ≡ cond b cacheLent.Fine cacheLent.Malformed
-    → a ≡ b
+inner_same : (a b : Bool) → ◌≡◌ {A = Result (Unit {0}) Fault} (cond a (Ok tt) (Err fault.Malformed))
+    (cond b (Ok tt) (Err fault.Malformed)) → a ≡ b
 inner_same true true h = refl
 inner_same true false h = clash (cc)
 inner_same false true h = clash (cc)
@@ -70,7 +66,7 @@ unfolding seen_fits moved_node
 seen-moved k n ss = refl
 
 right_length : (c : MessageCache) (cs : List ℕ) → eqb (length cs) (c.max_messages * message_size) ≡ true
-    → cacheLentOf c cs ≡ cond (cacheWellFormed c cs) cacheLent.Fine cacheLent.Malformed
+    → cacheLentOf c cs ≡ cond (cacheWellFormed c cs) (Ok tt) (Err fault.Malformed)
 unfolding cacheLentOf
 right_length c cs t = rw t
 
@@ -101,20 +97,20 @@ module _ (k : ℕ) (n : Node) (ss cs : List ℕ) (typed : Typed n) where
 
   -- ---- admit
   module _ (ed : Edition) (body : List ℕ) (i : ℕ) (word : Bool) (at : ℕ) where
-    fit-moved : (p : List ℕ) (r : Admission) → plan_fit (moved_node k n) at p r ≡ plan_fit n at p r
+    fit-moved : (p : List ℕ) (r : Result ((ℕ × ℕ) × (ℕ × ℕ)) Unfit) → plan_fit (moved_node k n) at p r ≡ plan_fit n at p r
     unfolding moved_node
-    fit-moved p (admission.Unfit why) = refl
-    fit-moved p (admission.Fit a e b f) = refl
+    fit-moved p (Err why) = refl
+    fit-moved p (Ok ((a, e), (b, f))) = refl
 
-    at_moved : (r : MessageAt) → plan_at (moved_node k n) at word body r ≡ plan_at n at word body r
+    at_moved : (r : Result (ℕ × ℕ) ℕ) → plan_at (moved_node k n) at word body r ≡ plan_at n at word body r
     unfolding moved_node moved
-    at_moved (found.Count c) = refl
-    at_moved (found.At a e) = fit-moved (between body a e) (admission_of n.cache.flags (between body a e) word)
+    at_moved (Err c) = refl
+    at_moved (Ok (a, e)) = fit-moved (between body a e) (admission_of n.cache.flags (between body a e) word)
 
-    body-moved : (r : Checked) → plan_body (moved_node k n) at word body i r ≡ plan_body n at word body i r
+    body-moved : (r : Result (Unit {0}) Refusal) → plan_body (moved_node k n) at word body i r ≡ plan_body n at word body i r
     unfolding moved_node moved
-    body-moved (checked.Refused why) = refl
-    body-moved checked.Fine = at_moved (message_at (mode_of n.cache.flags) body i)
+    body-moved (Err why) = refl
+    body-moved (Ok _) = at_moved (message_at (mode_of n.cache.flags) body i)
 
     pub plan_moved : planned (moved_node k n) ss cs ed body i word at ≡ planned n ss cs ed body i word at
     unfolding planned
@@ -184,20 +180,20 @@ module _ (k : ℕ) (n : Node) (ss cs : List ℕ) (typed : Typed n) where
     unfolding beat_answer moved_node
     beat_answer-moved = rw lent-moved
 
-    shifted-moved : lent_of n ss cs ≡ lent.Fine → shifted (moved k n.cache) ≡ moved k (shifted n.cache)
+    shifted-moved : lent_of n ss cs ≡ Ok tt → shifted (moved k n.cache) ≡ moved k (shifted n.cache)
     unfolding shift_cache
     shifted-moved f =
         rw (wrap_free k n.cache cs typed.messages, (fine-tests n ss cs f).messages)
         at (wrap_free-shift k n.cache cs typed.messages)
 
-    beat-by : (r : Beat) → beat_answer n ss cs at ≡ r
+    beat-by : (r : Result (Unit {0}) BeatError) → beat_answer n ss cs at ≡ r
         → when_done r (later_node at (swept (moved_node k n) at) (shifted (moved k n.cache)) (moved_node k n))
         (moved_node k n)
         ≡ moved_node k (when_done r (later_node at (swept n at) (shifted n.cache) n) n)
     unfolding swept later_node moved_node
-    beat-by (beat.Faulty why) e = refl
-    beat-by (beat.ClockBack clock) e = refl
-    beat-by beat.Done e = rw (shifted-moved (beat-done n ss cs at e).0)
+    beat-by (Err (beat.Faulty why)) e = refl
+    beat-by (Err (beat.ClockBack clock)) e = refl
+    beat-by (Ok _) e = rw (shifted-moved (beat-done n ss cs at e).0)
 
     pub beat-moved : (beat_answer (moved_node k n) ss cs at ≡ beat_answer n ss cs at)
         × (beat_node (moved_node k n) ss cs at ≡ moved_node k (beat_node n ss cs at))
@@ -277,11 +273,11 @@ module _ (n : Node) (ss cs : List ℕ) (typed : Typed n) where
       → Typed (admit_node n ss at (planned n ss cs ed body i word at))
   admit-typed ed body i word at = admit-by_plan ed body i word at (planned n ss cs ed body i word at) refl
 
-  beat-by-answer : (at : ℕ) (r : Beat) → beat_answer n ss cs at ≡ r → Typed (beat_node n ss cs at)
+  beat-by-answer : (at : ℕ) (r : Result (Unit {0}) BeatError) → beat_answer n ss cs at ≡ r → Typed (beat_node n ss cs at)
   unfolding beat_node
-  beat-by-answer at (beat.Faulty why) e = rw e typed
-  beat-by-answer at (beat.ClockBack clock) e = rw e typed
-  beat-by-answer at beat.Done e = beat-typed n ss cs at typed e
+  beat-by-answer at (Err (beat.Faulty why)) e = rw e typed
+  beat-by-answer at (Err (beat.ClockBack clock)) e = rw e typed
+  beat-by-answer at (Ok _) e = beat-typed n ss cs at typed e
 
   pub beaten-typed : (at : ℕ) → Typed (beat_node n ss cs at)
   beaten-typed at = beat-by-answer at (beat_answer n ss cs at) refl

@@ -20,6 +20,11 @@ ghost use Rattle.schema.specs.Accept.{accept_of};
 ghost use Rattle.ids.specs.Ids.{message_at, id_bytes, mark};
 ghost use Rattle.admission.specs.Flags.{allows_unsigned};
 ghost use Rattle.admission.specs.Admission.{admission_of, is_signed};
+ghost use Rattle.node.specs.declared.BeatError.TheVariants as beat;
+ghost use Rattle.node.specs.declared.AdvertiseError.TheVariants as advertise;
+ghost use Rattle.node.specs.declared.ExplainError.TheVariants as explain;
+ghost use Rattle.node.specs.declared.AskError.TheVariants as ask;
+ghost use Rattle.node.specs.declared.ServeError.TheVariants as serve;
 ghost use Rattle.node.specs.Parts.{parts_in, Parts, at_path, without};
 ghost use Rattle.seen.specs.State.{id_size};
 ghost use Rattle.mcache.specs.State.{message_size, message_id_size, message_limit, message_in, Listed, Usable};
@@ -28,19 +33,19 @@ ghost use Rattle.node.specs.Unique.{Starts, Admits, Beats, Advertises, Explains,
 ghost use Rattle.node.specs.State.{seen_ring, Ready, rises_from, seen_fits, fresh_node};
 ghost use Rattle.node.specs.Calls.{lent_of, later_node, taken, plan_fit, swept, held_at};
 ghost use Rattle.node.specs.Calls.{admit_answer, admit_node, admit_seen, admit_cache, told_in};
-ghost use Rattle.node.specs.Calls.{advertise_bytes, advertised, known_in, unseen_from, unseen_of, offered, ask_bytes, asked};
-ghost use Rattle.node.specs.Calls.{rows_for, cached_of, max_rpc_size, unwanted_in, remaining, reply_to, reply_bytes, serve_on, when_taken};
+ghost use Rattle.node.specs.Calls.{beat_answer, advertise_bytes, advertised, advertise_answer, advertise_left, explain_answer, known_in, unseen_from, unseen_of, offered, ask_bytes, asked, ask_answer, ask_left};
+ghost use Rattle.node.specs.Calls.{rows_for, cached_of, max_rpc_size, unwanted_in, remaining, reply_to, reply_bytes, serve_answer, serve_left};
 
-use admission::{Admission, MAX_TOPIC_SIZE, Unfit, admit, allows_unsigned, is_signed};
-use basis::{Dialect, Edition, Mode, mode_of};
-use ids::{MessageAt, message_at};
+use admission::{MAX_TOPIC_SIZE, Unfit, admit, allows_unsigned, is_signed};
+use basis::{Dialect, Edition, Fault, Mode, mode_of};
+use ids::message_at;
 use mcache::{MESSAGE_ID_SIZE, MESSAGE_SIZE, MessageCache, Offer, form_id};
 use parts::{
     add_part, add_where, emit_bytes, emit_head, emit_parts, first_mentions, parts_at,
     parts_that_fit, parts_without,
 };
-use protobuf::{Checked, MAX_RPC_SIZE, Refusal, put_bytes};
-use rows::{Ring, find_from, place};
+use protobuf::{MAX_RPC_SIZE, Refusal, put_bytes};
+use rows::{Ring, Store, place};
 use schema::{MAX_RECORDS, accept};
 use seen::{ID_SIZE, MAX_IDS, SeenCache, expiry_of};
 
@@ -53,36 +58,21 @@ pub struct Node {
     pub cache: MessageCache,
 }
 
-// What is wrong with a lent node and its stores: 40, 41, 42.
-#[derive(Clone, Copy)]
-pub enum Fault {
-    BadSetting,
-    BadStore,
-    Malformed,
-}
-
-#[derive(Clone, Copy)]
-pub enum Lent {
-    Fine,
-    Faulty(Fault),
-}
-
-#[derive(Clone, Copy)]
-pub enum Start {
-    Started,
-    BadSetting,
-}
-
 #[derive(Clone, Copy)]
 pub struct Started {
-    pub answer: Start,
+    pub answer: Result<(), Fault>,
     pub node: Node,
 }
 
+// Whether a message is new.
 #[derive(Clone, Copy)]
-pub enum Admit {
+pub enum Novelty {
     New,
     Duplicate,
+}
+
+#[derive(Clone, Copy)]
+pub enum AdmitError {
     Faulty(Fault),
     Refused(Refusal),
     NoMessage(usize),
@@ -92,80 +82,134 @@ pub enum Admit {
 
 #[derive(Clone, Copy)]
 pub struct Admitted {
-    pub answer: Admit,
+    pub answer: Result<Novelty, AdmitError>,
     pub node: Node,
 }
 
 #[derive(Clone, Copy)]
-pub enum Beat {
-    Done,
+pub enum BeatError {
     Faulty(Fault),
     ClockBack(u64),
 }
 
+impl From<Fault> for BeatError {
+    ghost from_gives = { λ why e. e ≡ beat.Faulty why };
+
+    fn from(why: Fault) -> BeatError {
+        BeatError::Faulty(why)
+    }
+}
+
 #[derive(Clone, Copy)]
 pub struct Beaten {
-    pub answer: Beat,
+    pub answer: Result<(), BeatError>,
     pub node: Node,
 }
 
 #[derive(Clone, Copy)]
-pub enum Advertise {
-    Bytes(usize),
+pub enum AdvertiseError {
     Faulty(Fault),
     TopicTooLong(usize),
     Room(usize),
 }
 
+impl From<Fault> for AdvertiseError {
+    ghost from_gives = { λ why e. e ≡ advertise.Faulty why };
+
+    fn from(why: Fault) -> AdvertiseError {
+        AdvertiseError::Faulty(why)
+    }
+}
+
 #[derive(Clone, Copy)]
 pub struct Advertised {
-    pub answer: Advertise,
+    pub answer: Result<usize, AdvertiseError>,
     pub node: Node,
 }
 
 #[derive(Clone, Copy)]
-pub enum Explain {
-    Why(Offer),
+pub enum ExplainError {
     Faulty(Fault),
     TopicTooLong(usize),
 }
 
+impl From<Fault> for ExplainError {
+    ghost from_gives = { λ why e. e ≡ explain.Faulty why };
+
+    fn from(why: Fault) -> ExplainError {
+        ExplainError::Faulty(why)
+    }
+}
+
 #[derive(Clone, Copy)]
 pub struct Explained {
-    pub answer: Explain,
+    pub answer: Result<Offer, ExplainError>,
     pub node: Node,
 }
 
 #[derive(Clone, Copy)]
-pub enum Ask {
-    Bytes(usize),
+pub enum AskError {
     Faulty(Fault),
     Refused(Refusal),
     Room(usize),
 }
 
+impl From<Fault> for AskError {
+    ghost from_gives = { λ why e. e ≡ ask.Faulty why };
+
+    fn from(why: Fault) -> AskError {
+        AskError::Faulty(why)
+    }
+}
+
+impl From<Refusal> for AskError {
+    ghost from_gives = { λ why e. e ≡ ask.Refused why };
+
+    fn from(why: Refusal) -> AskError {
+        AskError::Refused(why)
+    }
+}
+
 #[derive(Clone, Copy)]
 pub struct Asked {
-    pub answer: Ask,
+    pub answer: Result<usize, AskError>,
     pub node: Node,
 }
 
 // How many bytes and messages were written, and how many cached ones were left.
 #[derive(Clone, Copy)]
-pub enum Serve {
-    Reply {
-        bytes: usize,
-        messages: usize,
-        left: usize,
-    },
+pub struct Reply {
+    pub bytes: usize,
+    pub messages: usize,
+    pub left: usize,
+}
+
+#[derive(Clone, Copy)]
+pub enum ServeError {
     Faulty(Fault),
     Refused(Refusal),
     Room(usize),
 }
 
+impl From<Fault> for ServeError {
+    ghost from_gives = { λ why e. e ≡ serve.Faulty why };
+
+    fn from(why: Fault) -> ServeError {
+        ServeError::Faulty(why)
+    }
+}
+
+impl From<Refusal> for ServeError {
+    ghost from_gives = { λ why e. e ≡ serve.Refused why };
+
+    fn from(why: Refusal) -> ServeError {
+        ServeError::Refused(why)
+    }
+}
+
 #[derive(Clone, Copy)]
 pub struct Served {
-    pub answer: Serve,
+    pub answer: Result<Reply, ServeError>,
     pub node: Node,
 }
 
@@ -176,18 +220,7 @@ fn expiries_rise(expiry: &[u64], ring: Ring) -> bool
     requires { InStore ring expiry.now }
     ensures { result ≡ rises_from 0 (in_use ring expiry.now) }
 {
-    let mut last: u64 = 0;
-    let mut i: usize = 0;
-    while i < ring.count {
-        let p = place(ring, i);
-        let e = expiry[p];
-        if e < last {
-            return false;
-        }
-        last = e;
-        i += 1;
-    }
-    true
+    (0..ring.count).is_sorted_by_key(|i| expiry[place(ring, i)])
 }
 
 // ---- asking and serving
@@ -214,7 +247,12 @@ fn is_seen(lens: &[u8], store: &[u8], ring: Ring, signed: bool, id: &[u8]) -> bo
     let mut key = [0u8; ID_SIZE];
     key[0] = mark_of(signed);
     put_bytes(&mut key, 1, id);
-    find_from(lens, store, ID_SIZE, ring, 0, &key[..n + 1]) < ring.count
+    let held = Store {
+        lens,
+        ids: store,
+        size: ID_SIZE,
+    };
+    held.find_from(ring, 0, &key[..n + 1]) < ring.count
 }
 
 // Whether an id is not held: no message with a signature was seen under it, nor, where unsigned messages are allowed, one without.
@@ -250,13 +288,11 @@ fn unseen(
     ensures upper_bound { result ≤ n }
 {
     let mut k: usize = 0;
-    let mut i: usize = 0;
-    while i < n {
+    for i in 0..n {
         let a = from[i * 2];
         let e = from[i * 2 + 1];
         let there = is_unseen(lens, store, ring, flags, &body[a..e]);
         k = add_where(there, to, k, a, e);
-        i += 1;
     }
     k
 }
@@ -306,14 +342,17 @@ fn cached(
     ensures by_index_2 { (cs : List ℕ) → length cs ≡ ring.cap * message_size → Parts cs to.new result }
     ensures upper_bound { result ≤ n }
 {
+    let held = Store {
+        lens: id_lens,
+        ids,
+        size: MESSAGE_ID_SIZE,
+    };
     let mut k: usize = 0;
-    let mut i: usize = 0;
-    while i < n {
+    for i in 0..n {
         let a = from[i * 2];
         let e = from[i * 2 + 1];
-        let row = find_from(id_lens, ids, MESSAGE_ID_SIZE, ring, 0, &body[a..e]);
+        let row = held.find_from(ring, 0, &body[a..e]);
         k = add_message(lens, ring, row, to, k);
-        i += 1;
     }
     k
 }
@@ -337,10 +376,7 @@ fn add_message(lens: &[u16], ring: Ring, row: usize, to: &mut [usize], n: usize)
 fn reply_room(len: usize) -> usize
     ensures { result ≡ min len max_rpc_size }
 {
-    if len < MAX_RPC_SIZE {
-        return len;
-    }
-    MAX_RPC_SIZE
+    len.min(MAX_RPC_SIZE)
 }
 
 // ---- writing
@@ -351,9 +387,8 @@ fn emit_request(body: &[u8], table: &[usize], n: usize, out: &mut [u8], at: usiz
     requires fits { Fits at (encode_rpc (request (parts_in body.now table.now n))) }
     ensures { Puts out.old at (encode_rpc (request (parts_in body.now table.now n))) out.new result }
 {
-    let mut none = [0u8; 1];
-    let len = emit_parts(body, table, n, 1, &mut none, 0);
-    let entry = emit_head(2, len, &mut none, 0) + len;
+    let len = emit_parts(body, table, n, 1, &mut [], 0);
+    let entry = emit_head(2, len, &mut [], 0) + len;
     let i = emit_head(3, entry, out, at);
     let j = emit_head(2, len, out, i);
     emit_parts(body, table, n, 1, out, j)
@@ -367,14 +402,12 @@ fn emit_ids(rows: &[u8], n: usize, id_lens: &[u8], ids: &[u8], out: &mut [u8], a
     ensures { Puts out.old at (repeated (bytes_field 2) (map (id_at message_id_size id_lens.now ids.now) (take n rows.now))) out.new result }
 {
     let mut end = at;
-    let mut i: usize = 0;
-    while i < n {
-        let p = rows[i] as usize;
+    for row in &rows[..n] {
+        let p = *row as usize;
         let len = id_lens[p] as usize;
         let base = p * MESSAGE_ID_SIZE;
         end = emit_head(2, len, out, end);
         end = emit_bytes(&ids[base..base + len], out, end);
-        i += 1;
     }
     end
 }
@@ -394,11 +427,10 @@ fn emit_advertisement(
     requires fits { Fits at (encode_rpc (advertisement topic.now (map (id_at message_id_size id_lens.now ids.now) (take n rows.now)))) }
     ensures { Puts out.old at (encode_rpc (advertisement topic.now (map (id_at message_id_size id_lens.now ids.now) (take n rows.now)))) out.new result }
 {
-    let mut none = [0u8; 1];
-    let named = emit_ids(rows, n, id_lens, ids, &mut none, 0);
-    let topic_end = emit_head(1, topic.len(), &mut none, 0) + topic.len();
+    let named = emit_ids(rows, n, id_lens, ids, &mut [], 0);
+    let topic_end = emit_head(1, topic.len(), &mut [], 0) + topic.len();
     let len = topic_end + named;
-    let entry = emit_head(1, len, &mut none, 0) + len;
+    let entry = emit_head(1, len, &mut [], 0) + len;
     let i = emit_head(3, entry, out, at);
     let j = emit_head(1, len, out, i);
     let k = emit_head(1, topic.len(), out, j);
@@ -430,44 +462,36 @@ impl Node {
     ) -> Started
         ensures { Starts ttl max_seen history_len max_messages flags result }
     {
-        let c = MessageCache::new(history_len, max_messages, flags);
-        let cache = c.cache;
-        let answer = c.answer;
-        match answer {
-            mcache::Start::BadSetting => Node::refused(),
-            mcache::Start::Started => {
-                if MAX_IDS < max_seen {
-                    return Node::refused();
-                }
-                Started {
-                    answer: Start::Started,
-                    node: Node {
-                        ttl,
-                        max_seen,
-                        clock: 0,
-                        seen: SeenCache::new(),
-                        cache,
-                    },
-                }
-            }
+        let begun = MessageCache::new(history_len, max_messages, flags);
+        if begun.answer.is_err() || MAX_IDS < max_seen {
+            return Node::refused();
+        }
+        Started {
+            answer: Ok(()),
+            node: Node {
+                ttl,
+                max_seen,
+                clock: 0,
+                seen: SeenCache::new(),
+                cache: begun.cache,
+            },
         }
     }
 
     // The answer to settings out of range, beside a node that keeps nothing.
     fn refused() -> Started
-        ensures answer_value { result.answer ≡ Start.BadSetting }
+        ensures answer_value { result.answer ≡ Err Fault.BadSetting }
         ensures node_value { result.node ≡ fresh_node 0 0 1 0 0 }
     {
-        let c = MessageCache::new(1, 0, 0);
-        let cache = c.cache;
+        let begun = MessageCache::new(1, 0, 0);
         Started {
-            answer: Start::BadSetting,
+            answer: Err(Fault::BadSetting),
             node: Node {
                 ttl: 0,
                 max_seen: 0,
                 clock: 0,
                 seen: SeenCache::new(),
-                cache,
+                cache: begun.cache,
             },
         }
     }
@@ -477,46 +501,32 @@ impl Node {
         requires { length seen_store.now ≡ self.max_seen * id_size }
         ensures { result ≡ seen_fits self seen_store.now }
     {
-        let seen = self.seen;
-        let lent = seen.lent(seen_store);
-        match lent {
-            seen::Lent::BadStore => false,
-            seen::Lent::Malformed => false,
-            seen::Lent::Fine => {
-                let ring = seen.ring(self.max_seen);
-                let expiry = seen.expiry;
-                expiries_rise(&expiry, ring)
-            }
+        if self.seen.lent(seen_store).is_err() {
+            return false;
         }
+        expiries_rise(&self.seen.expiry, self.seen.ring(self.max_seen))
     }
 
     // Whether the node and its stores can be used together.
-    pub fn lent(self, seen_store: &[u8], cache_store: &[u8]) -> Lent
+    pub fn lent(self, seen_store: &[u8], cache_store: &[u8]) -> Result<(), Fault>
         ensures { result ≡ lent_of self seen_store.now cache_store.now }
     {
         let cap = seen_store.len() / ID_SIZE;
         let max_seen = self.max_seen;
         if cap < max_seen {
-            return Lent::Faulty(Fault::BadSetting);
+            return Err(Fault::BadSetting);
         }
         if max_seen < cap {
-            return Lent::Faulty(Fault::BadStore);
+            return Err(Fault::BadStore);
         }
         if seen_store.len() % ID_SIZE != 0 {
-            return Lent::Faulty(Fault::BadStore);
+            return Err(Fault::BadStore);
         }
-        let cache = self.cache;
-        let lent = cache.lent(cache_store);
-        match lent {
-            mcache::Lent::BadStore => Lent::Faulty(Fault::BadStore),
-            mcache::Lent::Malformed => Lent::Faulty(Fault::Malformed),
-            mcache::Lent::Fine => {
-                if self.seen_fits(seen_store) {
-                    return Lent::Fine;
-                }
-                Lent::Faulty(Fault::Malformed)
-            }
+        self.cache.lent(cache_store)?;
+        if self.seen_fits(seen_store) {
+            return Ok(());
         }
+        Err(Fault::Malformed)
     }
 
     // With another clock and other caches.
@@ -546,22 +556,19 @@ impl Node {
         ensures cache_store_after { cache_store.new ≡ admit_cache self seen_store.old cache_store.old at (taken part.now (drop 1 key.now)) }
     {
         let cap = self.max_seen;
-        let before = self.seen;
-        let cache = self.cache;
-        let seen = before.clean(cap, at);
+        let seen = self.seen.clean(cap, at);
         if seen.holds(seen_store, cap, key) {
             return Admitted {
-                answer: Admit::Duplicate,
-                node: self.later(at, seen, cache),
+                answer: Ok(Novelty::Duplicate),
+                node: self.later(at, seen, self.cache),
             };
         }
         let expires = expiry_of(at, self.ttl);
         let seen = seen.enter(seen_store, cap, key, expires, cap);
-        let kept = cache.keep(cache_store, part, &key[1..]);
-        let cache = kept.cache;
+        let kept = self.cache.keep(cache_store, part, &key[1..]);
         Admitted {
-            answer: Admit::New,
-            node: self.later(at, seen, cache),
+            answer: Ok(Novelty::New),
+            node: self.later(at, seen, kept.cache),
         }
     }
 
@@ -581,21 +588,15 @@ impl Node {
         ensures cache_store_after { cache_store.new ≡ admit_cache self seen_store.old cache_store.old at (plan_fit self at part.now (admission_of self.cache.flags part.now verified)) }
     {
         let flags = self.cache.flags;
-        let a = admit(part, verified, flags);
-        match a {
-            Admission::Unfit(why) => Admitted {
-                answer: Admit::Unfit(why),
+        match admit(part, verified, flags) {
+            Err(why) => Admitted {
+                answer: Err(AdmitError::Unfit(why)),
                 node: self,
             },
-            Admission::Fit {
-                from_start,
-                from_end,
-                seqno_start,
-                seqno_end,
-            } => {
+            Ok(((from_start, from_end), (seqno_start, seqno_end))) => {
                 if at < self.clock {
                     return Admitted {
-                        answer: Admit::ClockBack(self.clock),
+                        answer: Err(AdmitError::ClockBack(self.clock)),
                         node: self,
                     };
                 }
@@ -627,92 +628,102 @@ impl Node {
     ) -> Admitted
         ensures { Admits self seen_store.old cache_store.old edition body.now index verified at result seen_store.new cache_store.new }
     {
-        let lent = self.lent(seen_store, cache_store);
-        match lent {
-            Lent::Faulty(why) => Admitted {
-                answer: Admit::Faulty(why),
+        if let Err(why) = self.lent(seen_store, cache_store) {
+            return Admitted {
+                answer: Err(AdmitError::Faulty(why)),
+                node: self,
+            };
+        }
+        let mode = mode_of(self.cache.flags as u64);
+        if let Err(why) = accept(Dialect { edition, mode }, body) {
+            return Admitted {
+                answer: Err(AdmitError::Refused(why)),
+                node: self,
+            };
+        }
+        match message_at(mode, body, index) {
+            Err(count) => Admitted {
+                answer: Err(AdmitError::NoMessage(count)),
                 node: self,
             },
-            Lent::Fine => {
-                let mode = mode_of(self.cache.flags as u64);
-                let c = accept(Dialect { edition, mode }, body);
-                match c {
-                    Checked::Refused(why) => Admitted {
-                        answer: Admit::Refused(why),
-                        node: self,
-                    },
-                    Checked::Fine => {
-                        let m = message_at(mode, body, index);
-                        match m {
-                            MessageAt::Count(n) => Admitted {
-                                answer: Admit::NoMessage(n),
-                                node: self,
-                            },
-                            MessageAt::At { start, end } => self.admit_part(
-                                seen_store,
-                                cache_store,
-                                &body[start..end],
-                                verified,
-                                at,
-                            ),
-                        }
-                    }
-                }
+            Ok((start, end)) => {
+                self.admit_part(seen_store, cache_store, &body[start..end], verified, at)
             }
         }
+    }
+
+    // What a heartbeat answers: the state is tested, and then the clock.
+    fn beat_answer(self, seen_store: &[u8], cache_store: &[u8], at: u64) -> Result<(), BeatError>
+        ensures { result ≡ beat_answer self seen_store.now cache_store.now at }
+    {
+        self.lent(seen_store, cache_store)?;
+        if at < self.clock {
+            return Err(BeatError::ClockBack(self.clock));
+        }
+        Ok(())
     }
 
     // Cleans up, opens a window and sets the clock.
     pub fn heartbeat(self, seen_store: &[u8], cache_store: &[u8], at: u64) -> Beaten
         ensures { Beats self seen_store.now cache_store.now at result }
     {
-        let lent = self.lent(seen_store, cache_store);
-        match lent {
-            Lent::Faulty(why) => Beaten {
-                answer: Beat::Faulty(why),
-                node: self,
-            },
-            Lent::Fine => {
-                if at < self.clock {
-                    return Beaten {
-                        answer: Beat::ClockBack(self.clock),
-                        node: self,
-                    };
-                }
-                let before = self.seen;
-                let seen = before.clean(self.max_seen, at);
-                let held = self.cache;
-                let cache = held.next_window();
-                Beaten {
-                    answer: Beat::Done,
-                    node: self.later(at, seen, cache),
-                }
-            }
+        let answer = self.beat_answer(seen_store, cache_store, at);
+        if answer.is_err() {
+            return Beaten { answer, node: self };
+        }
+        let seen = self.seen.clean(self.max_seen, at);
+        let cache = self.cache.next_window();
+        Beaten {
+            answer,
+            node: self.later(at, seen, cache),
         }
     }
 
     // Writes an advertisement of a topic, where the state and the topic were tested.
-    fn announce(self, cache_store: &[u8], topic: &[u8], windows: usize, out: &mut [u8]) -> Advertise
+    fn announce(
+        self,
+        cache_store: &[u8],
+        topic: &[u8],
+        windows: usize,
+        out: &mut [u8],
+    ) -> Result<usize, AdvertiseError>
         requires { (Usable self.cache cache_store.now) × (length topic.now ≤ 1024) }
         ensures value { result ≡ advertised (answer (advertise_bytes self cache_store.now topic.now windows) out.old) }
         ensures out_after { out.new ≡ written (advertise_bytes self cache_store.now topic.now windows) out.old }
     {
-        let cache = self.cache;
-        let told = cache.tell(cache_store, topic, windows);
+        let told = self.cache.tell(cache_store, topic, windows);
         let n = told.count;
         if n == 0 {
-            return Advertise::Bytes(0);
+            return Ok(0);
         }
-        let rows = told.rows;
-        let id_lens = cache.id_len;
-        let ids = cache.ids;
-        let mut none = [0u8; 1];
-        let needed = emit_advertisement(topic, &rows, n, &id_lens, &ids, &mut none, 0);
+        let rows = &told.rows;
+        let id_lens = &self.cache.id_len;
+        let ids = &self.cache.ids;
+        let needed = emit_advertisement(topic, rows, n, id_lens, ids, &mut [], 0);
         if out.len() < needed {
-            return Advertise::Room(needed);
+            return Err(AdvertiseError::Room(needed));
         }
-        emit_advertisement(topic, &rows, n, &id_lens, &ids, out, 0);
-        Advertise::Bytes(needed)
+        emit_advertisement(topic, rows, n, id_lens, ids, out, 0);
+        Ok(needed)
+    }
+
+    // What an advertise answers: the state is tested, and then the topic.
+    fn advertise_answer(
+        self,
+        seen_store: &[u8],
+        cache_store: &[u8],
+        topic: &[u8],
+        windows: usize,
+        out: &mut [u8],
+    ) -> Result<usize, AdvertiseError>
+        ensures value { result ≡ advertise_answer self seen_store.now cache_store.now topic.now windows out.old }
+        ensures out_after { out.new ≡ advertise_left self seen_store.now cache_store.now topic.now windows out.old }
+    {
+        self.lent(seen_store, cache_store)?;
+        if MAX_TOPIC_SIZE < topic.len() {
+            return Err(AdvertiseError::TopicTooLong(topic.len()));
+        }
+        self.announce(cache_store, topic, windows, out)
     }
 
     // Writes an RPC with one IHAVE: the topic, and the ids of the newest windows asked for that carry it. Without such ids, no bytes.
@@ -726,23 +737,28 @@ impl Node {
     ) -> Advertised
         ensures { Advertises self seen_store.now cache_store.now topic.now windows out.old result out.new }
     {
-        let lent = self.lent(seen_store, cache_store);
-        match lent {
-            Lent::Faulty(why) => Advertised {
-                answer: Advertise::Faulty(why),
-                node: self,
-            },
-            Lent::Fine => {
-                if MAX_TOPIC_SIZE < topic.len() {
-                    return Advertised {
-                        answer: Advertise::TopicTooLong(topic.len()),
-                        node: self,
-                    };
-                }
-                let answer = self.announce(cache_store, topic, windows, out);
-                Advertised { answer, node: self }
-            }
+        Advertised {
+            answer: self.advertise_answer(seen_store, cache_store, topic, windows, out),
+            node: self,
         }
+    }
+
+    // What an explain answers: the state is tested, then the topic, and then the cache is asked.
+    fn explain_answer(
+        self,
+        seen_store: &[u8],
+        cache_store: &[u8],
+        id: &[u8],
+        topic: &[u8],
+        windows: usize,
+    ) -> Result<Offer, ExplainError>
+        ensures { result ≡ explain_answer self seen_store.now cache_store.now id.now topic.now windows }
+    {
+        self.lent(seen_store, cache_store)?;
+        if MAX_TOPIC_SIZE < topic.len() {
+            return Err(ExplainError::TopicTooLong(topic.len()));
+        }
+        Ok(self.cache.offer(cache_store, id, topic, windows))
     }
 
     // Whether an id stands in the advertisement of a topic from the newest windows asked for, and why not. An id of any length is taken.
@@ -756,31 +772,14 @@ impl Node {
     ) -> Explained
         ensures { Explains self seen_store.now cache_store.now id.now topic.now windows result }
     {
-        let lent = self.lent(seen_store, cache_store);
-        match lent {
-            Lent::Faulty(why) => Explained {
-                answer: Explain::Faulty(why),
-                node: self,
-            },
-            Lent::Fine => {
-                if MAX_TOPIC_SIZE < topic.len() {
-                    return Explained {
-                        answer: Explain::TopicTooLong(topic.len()),
-                        node: self,
-                    };
-                }
-                let cache = self.cache;
-                let offer = cache.offer(cache_store, id, topic, windows);
-                Explained {
-                    answer: Explain::Why(offer),
-                    node: self,
-                }
-            }
+        Explained {
+            answer: self.explain_answer(seen_store, cache_store, id, topic, windows),
+            node: self,
         }
     }
 
     // Writes a request for what a body offers and is not seen, where the state and the body were tested.
-    fn request_for(self, seen_store: &[u8], body: &[u8], out: &mut [u8]) -> Ask
+    fn request_for(self, seen_store: &[u8], body: &[u8], out: &mut [u8]) -> Result<usize, AskError>
         requires sound { Sound id_size (seen_ring self) self.seen.len seen_store.now }
         requires body_len_bound { (length body.now ≤ max_rpc_size) × (length (at_path (mode_of self.cache.flags) (3 ∷ 1 ∷ 2 ∷ []) body.now) ≤ 512) }
         ensures value { result ≡ asked (answer (ask_bytes self seen_store.now body.now) out.old) }
@@ -793,20 +792,36 @@ impl Node {
         let mode = mode_of(flags as u64);
         let n = parts_at(mode, body, 0, body.len(), &path, &mut named, 0);
         let k = first_mentions(body, &named, n, &mut first);
-        let seen = self.seen;
-        let ring = seen.ring(self.max_seen);
-        let lens = seen.len;
-        let m = unseen(&lens, seen_store, ring, flags, body, &first, k, &mut named);
+        let ring = self.seen.ring(self.max_seen);
+        let lens = &self.seen.len;
+        let m = unseen(lens, seen_store, ring, flags, body, &first, k, &mut named);
         if m == 0 {
-            return Ask::Bytes(0);
+            return Ok(0);
         }
-        let mut none = [0u8; 1];
-        let needed = emit_request(body, &named, m, &mut none, 0);
+        let needed = emit_request(body, &named, m, &mut [], 0);
         if out.len() < needed {
-            return Ask::Room(needed);
+            return Err(AskError::Room(needed));
         }
         emit_request(body, &named, m, out, 0);
-        Ask::Bytes(needed)
+        Ok(needed)
+    }
+
+    // What an ask answers: the state is tested, and then the body.
+    fn ask_answer(
+        self,
+        seen_store: &[u8],
+        cache_store: &[u8],
+        edition: Edition,
+        body: &[u8],
+        out: &mut [u8],
+    ) -> Result<usize, AskError>
+        ensures value { result ≡ ask_answer self seen_store.now cache_store.now edition body.now out.old }
+        ensures out_after { out.new ≡ ask_left self seen_store.now cache_store.now edition body.now out.old }
+    {
+        self.lent(seen_store, cache_store)?;
+        let mode = mode_of(self.cache.flags as u64);
+        accept(Dialect { edition, mode }, body)?;
+        self.request_for(seen_store, body, out)
     }
 
     // Writes an RPC with one IWANT that holds every id in the IHAVEs of a body that is not held, each once. Without such ids, no bytes.
@@ -820,32 +835,21 @@ impl Node {
     ) -> Asked
         ensures { Asks self seen_store.now cache_store.now edition body.now out.old result out.new }
     {
-        let lent = self.lent(seen_store, cache_store);
-        match lent {
-            Lent::Faulty(why) => Asked {
-                answer: Ask::Faulty(why),
-                node: self,
-            },
-            Lent::Fine => {
-                let mode = mode_of(self.cache.flags as u64);
-                let c = accept(Dialect { edition, mode }, body);
-                match c {
-                    Checked::Refused(why) => Asked {
-                        answer: Ask::Refused(why),
-                        node: self,
-                    },
-                    Checked::Fine => {
-                        let answer = self.request_for(seen_store, body, out);
-                        Asked { answer, node: self }
-                    }
-                }
-            }
+        Asked {
+            answer: self.ask_answer(seen_store, cache_store, edition, body, out),
+            node: self,
         }
     }
 
     // Writes the cached messages that a body asks for and a second one does not decline, as many as the reply room takes, where the state and the bodies
     // were tested.
-    fn reply_to(self, cache_store: &[u8], body: &[u8], unwanted: &[u8], out: &mut [u8]) -> Serve
+    fn reply_to(
+        self,
+        cache_store: &[u8],
+        body: &[u8],
+        unwanted: &[u8],
+        out: &mut [u8],
+    ) -> Result<Reply, ServeError>
         requires usable { Usable self.cache cache_store.now }
         requires body_len_bound { (length (at_path (mode_of self.cache.flags) (3 ∷ 2 ∷ 1 ∷ []) body.now) ≤ 512) × (length (at_path (mode_of self.cache.flags) (3 ∷ 5 ∷ 1 ∷ []) unwanted.now) ≤ 512) }
         ensures value { result ≡ reply_to (cached_of self.cache cache_store.now (remaining (mode_of self.cache.flags) body.now unwanted.now)) out.old }
@@ -858,48 +862,55 @@ impl Node {
         let n = parts_at(mode, body, 0, body.len(), &path, &mut named, 0);
         let k = first_mentions(body, &named, n, &mut first);
         let r = not_declined(mode, body, &first, k, unwanted, &mut named);
-        let cache = self.cache;
-        let ring = cache.ring();
-        let lens = cache.len;
-        let id_lens = cache.id_len;
-        let ids = cache.ids;
-        let m = cached(&lens, &id_lens, &ids, ring, body, &named, r, &mut first);
+        let ring = self.cache.ring();
+        let lens = &self.cache.len;
+        let id_lens = &self.cache.id_len;
+        let ids = &self.cache.ids;
+        let m = cached(lens, id_lens, ids, ring, body, &named, r, &mut first);
         if m == 0 {
-            return Serve::Reply {
+            return Ok(Reply {
                 bytes: 0,
                 messages: 0,
                 left: 0,
-            };
+            });
         }
         let room = reply_room(out.len());
         let w = parts_that_fit(cache_store, &first, m, 2, room);
         if w == 0 {
-            let mut none = [0u8; 1];
-            let needed = emit_parts(cache_store, &first, 1, 2, &mut none, 0);
-            return Serve::Room(needed);
+            let needed = emit_parts(cache_store, &first, 1, 2, &mut [], 0);
+            return Err(ServeError::Room(needed));
         }
         let bytes = emit_parts(cache_store, &first, w, 2, out, 0);
-        Serve::Reply {
+        Ok(Reply {
             bytes,
             messages: w,
             left: m - w,
-        }
+        })
     }
 
-    // Tests the second body, after the first: it is read in 1.2.
-    fn serve_taken(self, cache_store: &[u8], body: &[u8], unwanted: &[u8], out: &mut [u8]) -> Serve
-        requires usable { Usable self.cache cache_store.now }
-        requires body_len_bound { length (at_path (mode_of self.cache.flags) (3 ∷ 2 ∷ 1 ∷ []) body.now) ≤ 512 }
-        ensures value { result ≡ serve_on (reply_to (cached_of self.cache cache_store.now (remaining (mode_of self.cache.flags) body.now unwanted.now)) out.old) (accept_of (spoken (mode_of self.cache.flags) Edition.V12) unwanted.now) }
-        ensures out_after { out.new ≡ when_taken (accept_of (spoken (mode_of self.cache.flags) Edition.V12) unwanted.now) (sets out.old 0 (reply_bytes (cached_of self.cache cache_store.now (remaining (mode_of self.cache.flags) body.now unwanted.now)) out.old)) out.old }
+    // What a serve answers: the state is tested, and then both bodies, the second in 1.2.
+    fn serve_answer(
+        self,
+        seen_store: &[u8],
+        cache_store: &[u8],
+        edition: Edition,
+        body: &[u8],
+        unwanted: &[u8],
+        out: &mut [u8],
+    ) -> Result<Reply, ServeError>
+        ensures value { result ≡ serve_answer self seen_store.now cache_store.now edition body.now unwanted.now out.old }
+        ensures out_after { out.new ≡ serve_left self seen_store.now cache_store.now edition body.now unwanted.now out.old }
     {
-        let edition = Edition::V12;
+        self.lent(seen_store, cache_store)?;
         let mode = mode_of(self.cache.flags as u64);
-        let c = accept(Dialect { edition, mode }, unwanted);
-        match c {
-            Checked::Refused(why) => Serve::Refused(why),
-            Checked::Fine => self.reply_to(cache_store, body, unwanted, out),
-        }
+        let first = Dialect { edition, mode };
+        let second = Dialect {
+            edition: Edition::V12,
+            mode,
+        };
+        accept(first, body)?;
+        accept(second, unwanted)?;
+        self.reply_to(cache_store, body, unwanted, out)
     }
 
     // Writes the cached messages that the IWANTs of a body name, each once, but for those that the IDONTWANTs of a second body name, and stops before
@@ -915,26 +926,9 @@ impl Node {
     ) -> Served
         ensures { Serves self seen_store.now cache_store.now edition body.now unwanted.now out.old result out.new }
     {
-        let lent = self.lent(seen_store, cache_store);
-        match lent {
-            Lent::Faulty(why) => Served {
-                answer: Serve::Faulty(why),
-                node: self,
-            },
-            Lent::Fine => {
-                let mode = mode_of(self.cache.flags as u64);
-                let tested = accept(Dialect { edition, mode }, body);
-                match tested {
-                    Checked::Refused(why) => Served {
-                        answer: Serve::Refused(why),
-                        node: self,
-                    },
-                    Checked::Fine => {
-                        let answer = self.serve_taken(cache_store, body, unwanted, out);
-                        Served { answer, node: self }
-                    }
-                }
-            }
+        Served {
+            answer: self.serve_answer(seen_store, cache_store, edition, body, unwanted, out),
+            node: self,
         }
     }
 }

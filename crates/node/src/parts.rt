@@ -14,7 +14,7 @@ ghost use Rattle.node.specs.Parts.{parts_in, Parts, at_path, once, without, fitt
 use basis::Mode;
 use encode::put_head;
 use peer_id::uvarint_len;
-use protobuf::{Field, Step, WIRE_LEN, put_bytes, read_field};
+use protobuf::{Field, WIRE_LEN, put_bytes, read_field};
 use rows::same;
 
 // Puts a part into a table after its n parts; how many there are then.
@@ -71,13 +71,13 @@ pub(crate) fn parts_at(
     while at < end - start {
         let step = read_field(mode, &body[start..end], at);
         match step {
-            Step::End => {
+            Ok(None) => {
                 return k;
             }
-            Step::Refused(_) => {
+            Err(_) => {
                 return k;
             }
-            Step::At(f) => {
+            Ok(Some(f)) => {
                 k = field_at(mode, body, start, end, f, path, table, k);
                 at = f.next;
             }
@@ -130,19 +130,15 @@ pub(crate) fn first_mentions(body: &[u8], from: &[usize], n: usize, to: &mut [us
     ensures upper_bound { result ≤ n }
 {
     let mut k: usize = 0;
-    let mut i: usize = 0;
-    'named: while i < n {
+    'named: for i in 0..n {
         let a = from[i * 2];
         let e = from[i * 2 + 1];
-        i += 1;
-        let mut j: usize = 0;
-        while j < k {
+        for j in 0..k {
             let b = to[j * 2];
             let f = to[j * 2 + 1];
             if same(&body[b..f], &body[a..e]) {
                 continue 'named;
             }
-            j += 1;
         }
         k = add_part(to, k, a, e);
     }
@@ -154,16 +150,7 @@ fn is_apart(s: &[u8], table: &[usize], n: usize, bytes: &[u8]) -> bool
     requires { Parts s.now table.now n }
     ensures { result ≡ not (among bytes.now (parts_in s.now table.now n)) }
 {
-    let mut i: usize = 0;
-    while i < n {
-        let a = table[i * 2];
-        let e = table[i * 2 + 1];
-        if same(&s[a..e], bytes) {
-            return false;
-        }
-        i += 1;
-    }
-    true
+    (0..n).all(|i| !same(&s[table[i * 2]..table[i * 2 + 1]], bytes))
 }
 
 // Puts the parts of `from` that are not among the m parts of another body into `to`; how many those are.
@@ -184,13 +171,11 @@ pub(crate) fn parts_without(
     ensures upper_bound { result ≤ n }
 {
     let mut k: usize = 0;
-    let mut i: usize = 0;
-    while i < n {
+    for i in 0..n {
         let a = from[i * 2];
         let e = from[i * 2 + 1];
         let there = is_apart(other, table, m, &body[a..e]);
         k = add_where(there, to, k, a, e);
-        i += 1;
     }
     k
 }
@@ -226,13 +211,11 @@ pub(crate) fn emit_parts(
     ensures { Puts out.old at (repeated (bytes_field field) (parts_in s.now table.now n)) out.new result }
 {
     let mut end = at;
-    let mut i: usize = 0;
-    while i < n {
+    for i in 0..n {
         let a = table[i * 2];
         let e = table[i * 2 + 1];
         end = emit_head(field, e - a, out, end);
         end = emit_bytes(&s[a..e], out, end);
-        i += 1;
     }
     end
 }
@@ -245,8 +228,7 @@ pub(crate) fn parts_that_fit(s: &[u8], table: &[usize], n: usize, field: u64, ro
     ensures upper_bound { result ≤ n }
 {
     let mut left = room;
-    let mut i: usize = 0;
-    while i < n {
+    for i in 0..n {
         let a = table[i * 2];
         let e = table[i * 2 + 1];
         let part = &s[a..e];
@@ -254,8 +236,7 @@ pub(crate) fn parts_that_fit(s: &[u8], table: &[usize], n: usize, field: u64, ro
         if left < size {
             return i;
         }
-        left = left - size;
-        i += 1;
+        left -= size;
     }
-    i
+    n
 }

@@ -1,73 +1,47 @@
 // What each call on a node tells: the scope's number and the values beside it.
 ghost use Rattle.std.specs.Prelude.{◌≡◌};
-ghost use Rattle.node.specs.Told.{fault_told, lent_told, start_told, admit_told, beat_told, advertise_told, offer_told, explain_told, ask_told, serve_told};
+ghost use Rattle.node.specs.Told.{admit_told, beat_told, advertise_told, offer_told, explain_told, ask_told, serve_told};
 
-use super::{Admit, Advertise, Ask, Beat, Explain, Fault, Lent, Serve, Start};
+use super::{
+    AdmitError, AdvertiseError, AskError, BeatError, ExplainError, Novelty, Reply, ServeError,
+};
 use admission::told::told_unfit;
 use basis::{Told, refusals};
 use mcache::Offer;
 use protobuf::told::told_refusal;
 
-pub fn told_fault(why: Fault) -> Told
-    ensures { result ≡ fault_told why }
-{
-    match why {
-        Fault::BadSetting => Told::none(refusals::BAD_SETTING),
-        Fault::BadStore => Told::none(refusals::BAD_STORE),
-        Fault::Malformed => Told::none(refusals::MALFORMED),
-    }
-}
-
-pub fn told_lent(answer: Lent) -> Told
-    ensures { result ≡ lent_told answer }
-{
-    match answer {
-        Lent::Fine => Told::none(0),
-        Lent::Faulty(why) => told_fault(why),
-    }
-}
-
-pub fn told_start(answer: Start) -> Told
-    ensures { result ≡ start_told answer }
-{
-    match answer {
-        Start::Started => Told::none(0),
-        Start::BadSetting => Told::none(refusals::BAD_SETTING),
-    }
-}
-
-pub fn told_admit(answer: Admit) -> Told
+pub fn told_admit(answer: Result<Novelty, AdmitError>) -> Told
     ensures { result ≡ admit_told answer }
 {
     match answer {
-        Admit::New => Told::one(0, 1),
-        Admit::Duplicate => Told::one(0, 0),
-        Admit::Faulty(why) => told_fault(why),
-        Admit::Refused(refusal) => told_refusal(refusal),
-        Admit::NoMessage(count) => Told::one(refusals::NO_MESSAGE, count as u64),
-        Admit::Unfit(why) => told_unfit(why),
-        Admit::ClockBack(clock) => Told::one(refusals::CLOCK_BACK, clock),
+        Ok(Novelty::New) => Told::one(0, 1),
+        Ok(Novelty::Duplicate) => Told::one(0, 0),
+        Err(AdmitError::Faulty(why)) => why.told(),
+        Err(AdmitError::Refused(refusal)) => told_refusal(refusal),
+        Err(AdmitError::NoMessage(count)) => Told::one(refusals::NO_MESSAGE, count as u64),
+        Err(AdmitError::Unfit(why)) => told_unfit(why),
+        Err(AdmitError::ClockBack(clock)) => Told::one(refusals::CLOCK_BACK, clock),
     }
 }
 
-pub fn told_beat(answer: Beat) -> Told
+pub fn told_beat(answer: Result<(), BeatError>) -> Told
     ensures { result ≡ beat_told answer }
 {
     match answer {
-        Beat::Done => Told::none(0),
-        Beat::Faulty(why) => told_fault(why),
-        Beat::ClockBack(clock) => Told::one(refusals::CLOCK_BACK, clock),
+        Ok(()) => Told::none(0),
+        Err(BeatError::Faulty(why)) => why.told(),
+        Err(BeatError::ClockBack(clock)) => Told::one(refusals::CLOCK_BACK, clock),
     }
 }
 
-pub fn told_advertise(answer: Advertise) -> Told
+pub fn told_advertise(answer: Result<usize, AdvertiseError>) -> Told
     ensures { result ≡ advertise_told answer }
 {
     match answer {
-        Advertise::Bytes(count) => Told::one(0, count as u64),
-        Advertise::Faulty(why) => told_fault(why),
-        Advertise::TopicTooLong(len) => Told::one(refusals::TOPIC_TOO_LONG, len as u64),
-        Advertise::Room(needed) => Told::one(refusals::SHORT_ROOM, needed as u64),
+        Ok(count) => Told::one(0, count as u64),
+        Err(AdvertiseError::Faulty(why)) => why.told(),
+        Err(AdvertiseError::TopicTooLong(len)) => Told::one(refusals::TOPIC_TOO_LONG, len as u64),
+        Err(AdvertiseError::Room(needed)) => Told::one(refusals::SHORT_ROOM, needed as u64),
     }
 }
 
@@ -83,38 +57,39 @@ pub fn told_offer(offer: Offer) -> Told
     }
 }
 
-pub fn told_explain(answer: Explain) -> Told
+pub fn told_explain(answer: Result<Offer, ExplainError>) -> Told
     ensures { result ≡ explain_told answer }
 {
     match answer {
-        Explain::Why(offer) => told_offer(offer),
-        Explain::Faulty(why) => told_fault(why),
-        Explain::TopicTooLong(len) => Told::one(refusals::TOPIC_TOO_LONG, len as u64),
+        Ok(offer) => told_offer(offer),
+        Err(ExplainError::Faulty(why)) => why.told(),
+        Err(ExplainError::TopicTooLong(len)) => Told::one(refusals::TOPIC_TOO_LONG, len as u64),
     }
 }
 
-pub fn told_ask(answer: Ask) -> Told
+pub fn told_ask(answer: Result<usize, AskError>) -> Told
     ensures { result ≡ ask_told answer }
 {
     match answer {
-        Ask::Bytes(count) => Told::one(0, count as u64),
-        Ask::Faulty(why) => told_fault(why),
-        Ask::Refused(refusal) => told_refusal(refusal),
-        Ask::Room(needed) => Told::one(refusals::SHORT_ROOM, needed as u64),
+        Ok(count) => Told::one(0, count as u64),
+        Err(AskError::Faulty(why)) => why.told(),
+        Err(AskError::Refused(refusal)) => told_refusal(refusal),
+        Err(AskError::Room(needed)) => Told::one(refusals::SHORT_ROOM, needed as u64),
     }
 }
 
-pub fn told_serve(answer: Serve) -> Told
+pub fn told_serve(answer: Result<Reply, ServeError>) -> Told
     ensures { result ≡ serve_told answer }
 {
     match answer {
-        Serve::Reply {
-            bytes,
-            messages,
-            left,
-        } => Told::three(0, bytes as u64, messages as u64, left as u64),
-        Serve::Faulty(why) => told_fault(why),
-        Serve::Refused(refusal) => told_refusal(refusal),
-        Serve::Room(needed) => Told::one(refusals::SHORT_ROOM, needed as u64),
+        Ok(reply) => Told::three(
+            0,
+            reply.bytes as u64,
+            reply.messages as u64,
+            reply.left as u64,
+        ),
+        Err(ServeError::Faulty(why)) => why.told(),
+        Err(ServeError::Refused(refusal)) => told_refusal(refusal),
+        Err(ServeError::Room(needed)) => Told::one(refusals::SHORT_ROOM, needed as u64),
     }
 }

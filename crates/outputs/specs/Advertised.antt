@@ -1,6 +1,6 @@
 -- An advertisement is a body with one IHAVE that names a topic and the ids of cached messages that carry it, in every
 -- dialect; it is canonical. A topic that is not UTF-8 is carried by no cached message, and nothing is written of it.
-use Rattle.std.specs.Prelude.{ℕ, suc, ◌+◌, ◌*◌, ◌≤◌, ◌≡◌, refl, true, ◌&&◌, List, [], ◌∷◌, ◌++◌, length, ltb}
+use Rattle.std.specs.Prelude.{Ok, ℕ, suc, ◌+◌, ◌*◌, ◌≤◌, ◌≡◌, refl, true, ◌&&◌, List, [], ◌∷◌, ◌++◌, length, ltb}
 use Rattle.std.proofs.Math.Path.{sym}
 use Rattle.std.proofs.Common.{ap, ◌∙◌, arith, length-append}
 use Rattle.basis.specs.declared.Mode.{Mode}
@@ -20,7 +20,6 @@ use Rattle.canon.specs.Canon.{canon_body}
 use Rattle.canon.proofs.Written.{canon-written}
 use Rattle.canon.proofs.Taken.{Within}
 use Rattle.mcache.specs.declared.MessageCache.{MessageCache}
-use Rattle.mcache.specs.declared.Lent.TheVariants as cacheLent
 use Rattle.mcache.specs.Messages.{Cached, topics, ids_of, carrying, enter_id, in_order, gossip_ids}
 use Rattle.mcache.specs.State.{cached_in, message_id_size}
 use Rattle.mcache.specs.Calls.{lent_of as cacheLentOf}
@@ -28,7 +27,6 @@ use Rattle.mcache.specs.StateLaws.{fine-tests}
 use Rattle.mcache.specs.CachedLaws.{length-cached}
 use Rattle.mcache.specs.GossipLaws.{order-cases, enter-same, enter-past, enter-front, gossip_ids_lem, gossip_exactly}
 use Rattle.node.specs.declared.Node.{Node}
-use Rattle.node.specs.declared.Lent.TheVariants as lent
 use Rattle.node.specs.Gateway.{advertisement}
 use Rattle.node.specs.Calls.{lent_of, bytes_for, told_in, advertise_bytes}
 use Rattle.node.specs.StateLaws.{fine-tests as node-tests}
@@ -104,7 +102,7 @@ advertisement-small topic ids h t =
     omega (arith, ap length (advertisement-bytes topic ids))
 
 -- ---- of a tested cache
-module _ (c : MessageCache) (st topic : List ℕ) (windows : ℕ) (fine : cacheLentOf c st ≡ cacheLent.Fine)
+module _ (c : MessageCache) (st topic : List ℕ) (windows : ℕ) (fine : cacheLentOf c st ≡ Ok tt)
     (bytes : Bytes st) where
   abbrev told : List (List ℕ)
   told = gossip_ids (mode_of c.flags) topic windows (cached_in c st)
@@ -152,8 +150,8 @@ unfolding advertise_bytes
 advertise-none n cs topic windows e = let ids = told_in n cs topic windows in no_bytes ids (advertisement topic ids) e
 
 -- ---- of a node
-module _ (n : Node) (ss cs topic : List ℕ) (windows : ℕ) (fine : lent_of n ss cs ≡ lent.Fine) (bytes : Bytes cs) where
-  abbrev cache-fine : cacheLentOf n.cache cs ≡ cacheLent.Fine
+module _ (n : Node) (ss cs topic : List ℕ) (windows : ℕ) (fine : lent_of n ss cs ≡ Ok tt) (bytes : Bytes cs) where
+  abbrev cache-fine : cacheLentOf n.cache cs ≡ Ok tt
   cache-fine = (node-tests n ss cs fine).messages
 
   told_is : told_in n cs topic windows ≡ gossip_ids (mode_of n.cache.flags) topic windows (cached_in n.cache cs)

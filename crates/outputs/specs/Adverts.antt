@@ -1,6 +1,6 @@
 -- An advertisement as a body that is read: in every dialect it is taken, also where it is empty, and offers exactly
 -- what is told of. So an id is explained as listed exactly where it stands in the advertisement that is written.
-use Rattle.std.specs.Prelude.{ℕ, ◌≤◌, ◌≡◌, true, ◌↔◌, take, leb}
+use Rattle.std.specs.Prelude.{Ok, ℕ, ◌≤◌, ◌≡◌, true, ◌↔◌, take, leb}
 use Rattle.std.proofs.Math.Path.{sym, subst}
 use Rattle.std.proofs.Common.{ap, ◌∙◌, arith}
 use mathlib.Core.List.{List, [], append-nil}
@@ -10,12 +10,11 @@ use Rattle.basis.specs.declared.Mode.{Mode}
 use Rattle.basis.specs.declared.Edition.TheVariants.{V11}
 use Rattle.basis.specs.declared.Dialect.{Dialect}
 use Rattle.basis.specs.Dialect.{mode_of, spoken}
-use Rattle.basis.specs.Cases.{either, clash}
+use Rattle.basis.specs.Cases.{either, clash, of-ok}
 use Rattle.basis.specs.Bytes.{Bytes}
 use Rattle.basis.specs.Lists.{answer-fits, answer-short, written-fits}
 use Rattle.rows.specs.ListLaws.{put-sets}
 use Rattle.rows.specs.Ids.{among}
-use Rattle.protobuf.specs.declared.Checked.TheVariants.{Fine}
 use Rattle.rpc.specs.Rpc.{Rpc}
 use Rattle.schema.specs.Accept.{accept_of}
 use Rattle.canon.proofs.Taken.{Within, taken}
@@ -24,10 +23,7 @@ use Rattle.mcache.specs.GossipLaws.{told-distinct}
 use Rattle.node.specs.Parts.{once}
 use Rattle.node.specs.PartsLaws.{once-same}
 use Rattle.node.specs.declared.Node.{Node}
-use Rattle.node.specs.declared.Lent.TheVariants as lent
-use Rattle.node.specs.declared.Advertise.TheVariants as advertise
 use Rattle.node.specs.declared.Advertised.{Advertised}
-use Rattle.node.specs.declared.Explain.TheVariants as explain
 use Rattle.node.specs.declared.Explained.{Explained}
 use Rattle.node.specs.Gateway.{told_of, advertisement}
 use Rattle.node.specs.State.{gateway_in}
@@ -41,7 +37,7 @@ use Rattle.outputs.specs.Bodies.{nothing, nothing-means, by_cases}
 use Rattle.outputs.specs.Advertised.{advertise-means, advertise-none}
 
 -- ---- the advertisement of node b
-module _ (b : Node) (bs bc topic : List ℕ) (windows : ℕ) (fine : lent_of b bs bc ≡ lent.Fine) (bytes : Bytes bc)
+module _ (b : Node) (bs bc topic : List ℕ) (windows : ℕ) (fine : lent_of b bs bc ≡ Ok tt) (bytes : Bytes bc)
     (short : length topic ≤ 1024) where
   told_is : told_in b bc topic windows ≡ told_of topic windows (gateway_in b bs bc)
   told_is = told-gateway b bs bc topic windows fine
@@ -72,7 +68,7 @@ module _ (b : Node) (bs bc topic : List ℕ) (windows : ℕ) (fine : lent_of b b
       ))
 
   -- it is taken, also where it is empty
-  pub advert-taken : (d : Dialect) → accept_of d (advertise_bytes b bc topic windows) ≡ Fine
+  pub advert-taken : (d : Dialect) → accept_of d (advertise_bytes b bc topic windows) ≡ Ok tt
   advert-taken d = taken (advert-rpc.1 d)
 
   -- and offers what is told of, whatever the reader's mode
@@ -84,7 +80,7 @@ module _ (b : Node) (bs bc topic : List ℕ) (windows : ℕ) (fine : lent_of b b
       (told-distinct (mode_of (gateway_in b bs bc).flags) topic windows (gateway_in b bs bc).cache)
 
   -- ---- it stands at the front of a buffer that has the room
-  bytes_left : (out : List ℕ) (k : ℕ) → advertise_answer b bs bc topic windows out ≡ advertise.Bytes k
+  bytes_left : (out : List ℕ) (k : ℕ) → advertise_answer b bs bc topic windows out ≡ Ok k
       → take k (advertise_left b bs bc topic windows out) ≡ advertise_bytes b bc topic windows
   unfolding advertise_answer advertise_left
   bytes_left out k h =
@@ -93,16 +89,15 @@ module _ (b : Node) (bs bc topic : List ℕ) (windows : ℕ) (fine : lent_of b b
       either (leb (length s) (length out))
       (λ u.
       let l = leb-true (length s) (length out) u in
-      let e : advertise.Bytes (length s) ≡ advertise.Bytes k = rw (fine, t, answer-fits s out l) at h in
-      let q : length s ≡ k = cc in
+      let q : length s ≡ k = of-ok (rw (fine, t, answer-fits s out l) at h) in
       rw (fine, t, written-fits s out l, ← q) (put-sets out 0 s (omega arith)))
       (λ u. clash (let e = rw (fine, t, answer-short s out (leb-false (length s) (length out) u)) at h in cc))
 
   -- an id is listed exactly where it is among those that the written advertisement offers, in every buffer with room
   pub listed-written : (out : List ℕ) (a : Advertised) (left : List ℕ) → Advertises b bs bc topic windows out a left
-      → (k : ℕ) → a.answer ≡ advertise.Bytes k
+      → (k : ℕ) → a.answer ≡ Ok k
       → (mode : Mode) (id : List ℕ) (r : Explained) → Explains b bs bc id topic windows r
-      → (r.answer ≡ explain.Why offer.Listed) ↔ (among id (offered mode (take k left)) ≡ true)
+      → (r.answer ≡ Ok offer.Listed) ↔ (among id (offered mode (take k left)) ≡ true)
   listed-written out a left says k e mode id r why =
       let w : offered mode (take k left) ≡ told_of topic windows (gateway_in b bs bc) =
       ap (λ (l : List ℕ). offered mode (take k l)) says.buffer

@@ -1,8 +1,7 @@
 -- Bodies that are a field or several, each of bytes, and what they mean, in every dialect: messages that are published;
 -- a control, with one IHAVE or one IWANT; and nothing.
-use Rattle.std.specs.Prelude.{ℕ, ◌^◌, ◌≤◌, ◌<◌, ◌+◌, ◌≡◌, refl, false, List, [], ◌∷◌, ◌++◌, length, eqb}
+use Rattle.std.specs.Prelude.{Option, Some, None, ℕ, ◌^◌, ◌≤◌, ◌<◌, ◌+◌, ◌≡◌, refl, false, List, [], ◌∷◌, ◌++◌, length, eqb}
 use Rattle.std.proofs.Common.{sym, ap, ap₂, subst, append-nil, arith, length-append}
-use Rattle.std.proofs.Math.Option.{Option, none, some}
 use Rattle.basis.specs.declared.Mode.{Mode}
 use Rattle.basis.specs.declared.Edition.{Edition}
 use Rattle.basis.specs.declared.Edition.TheVariants.{V11, V12}
@@ -18,7 +17,8 @@ use Rattle.rpc.specs.Grammar.{IsIHave, is-ihave, IsIWant, is-iwant, IsGraft, IsP
 use Rattle.rpc.specs.Grammar.{IsControl, is_control, IsRpc, is-rpc}
 use Rattle.rpc.specs.Encode.{encode_rpc, repeated}
 use Rattle.meaning.specs.Size.{records_in}
-use Rattle.canonical.specs.Means.{body-append, Sized, bytes_entries, bytes-body, bytes-here, bytes-there, fields-sized, found}
+use Rattle.canonical.specs.Means.{body-append, Sized, bytes_entries, bytes-body, bytes-here, bytes-there}
+use Rattle.canonical.specs.Means.{fields-sized, found}
 use Rattle.canon.proofs.Taken.{Within}
 use Rattle.node.specs.Gateway.{controlled, advertisement, request}
 use Rattle.node.specs.Calls.{bytes_for}
@@ -48,7 +48,7 @@ one_field mode n l m d z = subst (λ (s : List ℕ). Body mode s (bytes_entries 
 
 -- ---- no bytes mean an RPC with nothing in it
 abbrev pub nothing : Rpc
-nothing = record { subscriptions = []; publish = []; control = none }
+nothing = record { subscriptions = []; publish = []; control = None }
 
 pub nothing-means : (d : Dialect) → Within d [] nothing
 unfolding records_in
@@ -56,7 +56,7 @@ nothing-means d = record { means = is-rpc no_fields no_pairs no_pairs no_pairs; 
 
 -- ---- messages
 abbrev pub published : List RawMessage → Rpc
-published ms = record { subscriptions = []; publish = ms; control = none }
+published ms = record { subscriptions = []; publish = ms; control = None }
 
 pub messages-mean : (d : Dialect) {ds : List (List ℕ)} {ms : List RawMessage} → Each Sized ds
     → Pairs (IsMessage d.mode) ds ms
@@ -102,7 +102,7 @@ iwant-means d {s} {w} z p =
 -- a topic and ids
 pub topic_ids_lem : (mode : Mode) (topic : List ℕ) (ids : List (List ℕ)) → Utf8 topic → Sized topic → Each Sized ids
     → IsIHave mode (bytes_field 1 topic ++ repeated (bytes_field 2) ids)
-    (record { topic_id = some topic; message_ids = ids })
+    (record { topic_id = Some topic; message_ids = ids })
 topic_ids_lem mode topic ids u z w =
     let a = bytes_entries 1 (topic ∷ []) in
     let b = bytes_entries 2 ids in

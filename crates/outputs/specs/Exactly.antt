@@ -1,6 +1,6 @@
 -- Advertise, ask and serve, each in one theorem: what the call answers and what it leaves, for every lent buffer, by
 -- the gateway and the RPC that the body means in the call's edition; and where ask and serve refuse a body.
-use Rattle.std.specs.Prelude.{ℕ, ◌≤◌, ◌<◌, ◌≡◌, List, [], ◌∷◌, ◌↔◌, ◌⊎◌, take, eqb}
+use Rattle.std.specs.Prelude.{Result, Ok, Err, ℕ, ◌≤◌, ◌<◌, ◌≡◌, List, [], ◌∷◌, ◌↔◌, ◌⊎◌, take, eqb}
 use Rattle.std.proofs.Math.Path.{refl, sym, ap}
 use Rattle.std.proofs.Common.{subst, ◌∙◌, inl, inr}
 use native.Mathlib.Omega.{arith}
@@ -11,20 +11,17 @@ use Rattle.basis.specs.declared.Mode.{Mode}
 use Rattle.basis.specs.declared.Edition.{Edition}
 use Rattle.basis.specs.declared.Edition.TheVariants.{V12}
 use Rattle.basis.specs.declared.Dialect.{Dialect}
+use Rattle.basis.specs.declared.ShortRoom.{ShortRoom}
 use Rattle.basis.specs.Dialect.{mode_of, spoken}
 use Rattle.basis.specs.Cases.{either, clash}
 use Rattle.basis.specs.Bytes.{Bytes}
 use Rattle.basis.specs.declared.Told.{Told}
-use Rattle.basis.specs.declared.Written.{Written}
-use Rattle.basis.specs.declared.Written.TheVariants as wrote
 use Rattle.basis.specs.Told.{told, done}
 use Rattle.basis.specs.Refusals.{topic-too_long, short-room}
-use Rattle.basis.specs.Writing.{answer, written}
+use Rattle.basis.specs.Writing.{answer, written, no_room}
 use Rattle.basis.specs.Lists.{answer-fits, answer-short, written-fits, written-short}
 use Rattle.rows.specs.ListLaws.{drop-sets, put-sets}
 use Rattle.protobuf.specs.declared.Refusal.{Refusal as Placed}
-use Rattle.protobuf.specs.declared.Checked.{Checked}
-use Rattle.protobuf.specs.declared.Checked.TheVariants as checked
 use Rattle.protobuf.specs.Told.{refusal_told}
 use Rattle.protobuf.specs.Encode.{bytes_field}
 use Rattle.schema.specs.Accept.{accept_of}
@@ -32,17 +29,17 @@ use Rattle.rpc.specs.Rpc.{Rpc}
 use Rattle.rpc.specs.Encode.{encode_rpc, repeated}
 use Rattle.meaning.specs.Decoded.{Refusal, Gated, refusal_gated, gated_bound, refusal-within}
 use Rattle.canon.proofs.Taken.{Within, taken, taken-exactly, refused-exactly}
+use Rattle.node.specs.declared.ServeError.TheVariants as serve
 use Rattle.node.specs.Parts.{once, without}
 use Rattle.node.specs.PartsLaws.{fitting-stop, without-none}
 use Rattle.node.specs.declared.Node.{Node}
-use Rattle.node.specs.declared.Lent.TheVariants as lent
-use Rattle.node.specs.declared.Serve.TheVariants as serve
 use Rattle.node.specs.Told.{advertise_told, ask_told, serve_told}
 use Rattle.node.specs.Gateway.{rpc_bytes, if_any, told_of, advertisement, advertise_of, lacking, request, ask_of}
 use Rattle.node.specs.Gateway.{having, reply_room, Reply, sent, short, sent_bytes, reply_for, serve_of}
 use Rattle.node.specs.State.{gateway_in}
 use Rattle.node.specs.Calls.{lent_of, advertised, advertise_answer, advertise_left, offered, unseen_of, asked, ask_answer}
-use Rattle.node.specs.Calls.{ask_left, remaining, cached_of, room_of, served_of, reply_bytes, replied, reply_to, serve_answer}
+use Rattle.node.specs.Calls.{ask_left, remaining, cached_of, room_of, served_of, reply_bytes, replied, reply_to}
+use Rattle.node.specs.Calls.{serve_answer}
 use Rattle.node.specs.Calls.{serve_left, told_in, advertise_bytes, ask_bytes, ask_on, serve_on}
 use Rattle.node.specs.ReplyLaws.{reply-within, reply-short, reply-some, sent_bytes_lem}
 use Rattle.node.specs.Laws.{told-gateway, unseen_gateway, cached-gateway, advertise-says, ask-says, serve-says}
@@ -51,7 +48,7 @@ use Rattle.outputs.specs.Outcomes.{Writes, ReplyIs, NoRoom, ServeExactly, ServeR
 use Rattle.outputs.specs.Outcomes.{NamesExactly, AdvertiseExactly}
 use Rattle.outputs.specs.Offered.{offered-means, wanted-means, unwanted_means, offered-once, remaining-means}
 use Rattle.outputs.specs.Bodies.{nothing, nothing-means}
-use Rattle.outputs.specs.Replied.{Replies, serve-means, serve-counts, serve-room}
+use Rattle.outputs.specs.Replied.{Replies, wrote, needs, of-needs, serve-means, serve-counts, serve-room}
 use Rattle.outputs.specs.Requested.{request-within}
 use Rattle.outputs.specs.Advertised.{advertise-means, no-topic-no_bytes}
 
@@ -69,7 +66,8 @@ front x s out e h =
     }
 
 -- ---- what a reply tells
-told-reply : (r : Reply) (k w l : ℕ) → serve_told (replied r) ≡ done (k ∷ w ∷ l ∷ []) → replied r ≡ serve.Reply k w l
+told-reply : (r : Reply) (k w l : ℕ) → serve_told (replied r) ≡ done (k ∷ w ∷ l ∷ [])
+    → replied r ≡ wrote k w l
 told-reply (sent ws ls) k w l h =
     let a : length (repeated (bytes_field 2) ws) ≡ k = ap (λ (t : Told). t.first) h in
     let b : length ws ≡ w = ap (λ (t : Told). t.second) h in
@@ -78,7 +76,7 @@ told-reply (sent ws ls) k w l h =
 told-reply (short needed) k w l h = let z : ◌≡◌ {A = ℕ} 12 0 = ap (λ (t : Told). t.number) h in absurd (omega arith)
 
 told-room : (r : Reply) (needed : ℕ) → serve_told (replied r) ≡ told short-room (needed ∷ [])
-    → replied r ≡ serve.Room needed
+    → replied r ≡ Err (serve.Room needed)
 told-room (sent ws ls) needed h = let z : ◌≡◌ {A = ℕ} 0 12 = ap (λ (t : Told). t.number) h in absurd (omega arith)
 told-room (short n) needed h = let a : n ≡ needed = ap (λ (t : Told). t.first) h in rw a
 
@@ -88,7 +86,7 @@ told-either (sent ws ls) = inl (length (repeated (bytes_field 2) ws), length ws,
 told-either (short needed) = inr (needed, refl)
 
 -- 12 exactly where the first does not fit
-room-first : (ms : List (List ℕ)) (out : List ℕ) (needed : ℕ) → reply_to ms out ≡ serve.Room needed
+room-first : (ms : List (List ℕ)) (out : List ℕ) (needed : ℕ) → reply_to ms out ≡ Err (serve.Room needed)
     → NoRoom ms out needed
 unfolding room_of
 room-first [] out needed h = clash (cc)
@@ -97,9 +95,8 @@ room-first (m ∷ ms) out needed h =
     let p = serve-room (m ∷ ms) out needed h in
     either (eqb s 0)
     (λ t.
-    let q : serve.Room (length (bytes_field 2 m)) ≡ serve.Room needed =
-    sym (reply-short m ms out (eqb-true s 0 t)) ∙ h in
-    record { first = m; others = ms; cached = refl; field = cc; passes = p.0 })
+    let q = of-needs (sym (reply-short m ms out (eqb-true s 0 t)) ∙ h) in
+    record { first = m; others = ms; cached = refl; field = sym q; passes = p.0 })
     (λ t. clash (let q = reply-some m ms out (eqb-false s 0 t) in cc))
 
 none-fits : (m : List ℕ) (ms : List (List ℕ)) (out : List ℕ) → reply_room (length out) < length (bytes_field 2 m)
@@ -108,15 +105,15 @@ unfolding served_of room_of
 none-fits m ms out h = fitting-stop 2 (reply_room (length out)) m ms h
 
 first-room : (ms : List (List ℕ)) (out : List ℕ) (needed : ℕ) → NoRoom ms out needed
-    → reply_to ms out ≡ serve.Room needed
+    → reply_to ms out ≡ Err (serve.Room needed)
 first-room ms out needed n =
     let l : reply_room (length out) < length (bytes_field 2 n.first) = rw n.field at n.passes in
     ap (λ (l : List (List ℕ)). reply_to l out) n.cached
-    ∙ reply-short n.first n.others out (none-fits n.first n.others out l) ∙ ap serve.Room (sym n.field)
+    ∙ reply-short n.first n.others out (none-fits n.first n.others out l) ∙ ap needs (sym n.field)
 
 -- of messages whose reply is a body
 module _ (mode : Mode) (ms : List (List ℕ)) (out : List ℕ) (r : Replies mode ms out) where
-  served : (k w l : ℕ) → reply_to ms out ≡ serve.Reply k w l
+  served : (k w l : ℕ) → reply_to ms out ≡ wrote k w l
       → ReplyIs mode ms out (sets out 0 (reply_bytes ms out)) k w l
   unfolding room_of
   served k w l h =
@@ -150,8 +147,8 @@ module _ (mode : Mode) (ms : List (List ℕ)) (out : List ℕ) (r : Replies mode
       }
 
 -- ---- advertise and ask: x is the RPC that names the ids
-names-exactly : (ids : List (List ℕ)) (x : Rpc) (out : List ℕ) (tells : Written → Told)
-    → ((k : ℕ) → tells (wrote.Bytes k) ≡ done (k ∷ [])) → ((k : ℕ) → tells (wrote.Room k) ≡ told short-room (k ∷ []))
+names-exactly : (ids : List (List ℕ)) (x : Rpc) (out : List ℕ) (tells : Result ℕ ShortRoom → Told)
+    → ((k : ℕ) → tells (Ok k) ≡ done (k ∷ [])) → ((k : ℕ) → tells (Err (no_room k)) ≡ told short-room (k ∷ []))
     → ((ids ≡ [] → ⊥) → (d : Dialect) → Within d (rpc_bytes (if_any ids x)) x)
     → NamesExactly ids x out (tells (answer (rpc_bytes (if_any ids x)) out)) (written (rpc_bytes (if_any ids x)) out)
 names-exactly [] x out tells on-bytes on_room w =
@@ -175,13 +172,13 @@ names-exactly (i ∷ is) x out tells on-bytes on_room w =
 
 -- ---- a body that is refused, of a call that tells this for each outcome of the one test, and none of 10, 1 to 7, 14
 -- to 16 and 11 where the body is taken
-module _ (d : Dialect) (body : List ℕ) (b : Bytes body) (tell : Checked → Told)
-    (on-wrong : (why : Placed) → tell (checked.Refused why) ≡ refusal_told why)
-    (other : Gated d.mode (tell checked.Fine).number → ⊥) where
-  refused-of : (c : Checked) → accept_of d body ≡ c → (a : Told) → tell c ≡ a → Gated d.mode a.number
+module _ (d : Dialect) (body : List ℕ) (b : Bytes body) (tell : Result (Unit {0}) Placed → Told)
+    (on-wrong : (why : Placed) → tell (Err why) ≡ refusal_told why)
+    (other : Gated d.mode (tell (Ok tt)).number → ⊥) where
+  refused-of : (c : Result (Unit {0}) Placed) → accept_of d body ≡ c → (a : Told) → tell c ≡ a → Gated d.mode a.number
       → Refusal d body a
-  refused-of (checked.Refused why) e a h g = (refused-exactly d body a b).0 (why, e, sym (on-wrong why) ∙ h)
-  refused-of checked.Fine e a h g = absurd (other (subst (λ (t : Told). Gated d.mode t.number) (sym h) g))
+  refused-of (Err why) e a h g = (refused-exactly d body a b).0 (why, e, sym (on-wrong why) ∙ h)
+  refused-of (Ok tt) e a h g = absurd (other (subst (λ (t : Told). Gated d.mode t.number) (sym h) g))
 
   body_refused : (a : Told) → ((tell (accept_of d body) ≡ a) × Gated d.mode a.number) ↔ Refusal d body a
   body_refused a = (
@@ -189,9 +186,9 @@ module _ (d : Dialect) (body : List ℕ) (b : Bytes body) (tell : Checked → To
     λ r. let g = (refused-exactly d body a b).1 r in (ap tell g.1 ∙ on-wrong g.0 ∙ g.2, refusal_gated r),
   )
 
-ask_other : {mode : Mode} (w : Written) → Gated mode (ask_told (asked w)).number → ⊥
-ask_other (wrote.Bytes k) g = omega (arith, (gated_bound g).0)
-ask_other (wrote.Room k) g = (gated_bound g).1.0 refl
+ask_other : {mode : Mode} (w : Result ℕ ShortRoom) → Gated mode (ask_told (asked w)).number → ⊥
+ask_other (Ok k) g = omega (arith, (gated_bound g).0)
+ask_other (Err room) g = (gated_bound g).1.0 refl
 
 serve_other : {mode : Mode} (r : Reply) → Gated mode (serve_told (replied r)).number → ⊥
 serve_other (sent ws ls) g = omega (arith, (gated_bound g).0)
@@ -205,13 +202,13 @@ module _ (mode : Mode) (ed : Edition) (body second : List ℕ) (b : Bytes body) 
   second-refused =
       body_refused (spoken mode V12) second b2 (λ c. serve_told (serve_on (replied r) c)) (λ why. refl) (serve_other r)
 
-  abbrev served_on : Checked → Told
+  abbrev served_on : Result (Unit {0}) Placed → Told
   served_on c = serve_told (serve_on (serve_on (replied r) (accept_of (spoken mode V12) second)) c)
 
-  refuses : (c : Checked) → accept_of (spoken mode ed) body ≡ c → (a : Told) → served_on c ≡ a → Gated mode a.number
-      → ServeRefuses mode ed body second a
-  refuses (checked.Refused why) e a h g = asking ((refused-exactly (spoken mode ed) body a b).0 (why, e, h))
-  refuses checked.Fine e a h g = declining ((taken-exactly (spoken mode ed) body b).0 e).1 ((second-refused a).0 (h, g))
+  refuses : (c : Result (Unit {0}) Placed) → accept_of (spoken mode ed) body ≡ c → (a : Told) → served_on c ≡ a
+      → Gated mode a.number → ServeRefuses mode ed body second a
+  refuses (Err why) e a h g = asking ((refused-exactly (spoken mode ed) body a b).0 (why, e, h))
+  refuses (Ok tt) e a h g = declining ((taken-exactly (spoken mode ed) body b).0 e).1 ((second-refused a).0 (h, g))
 
   refuses-only : (a : Told) → ServeRefuses mode ed body second a
       → (served_on (accept_of (spoken mode ed) body) ≡ a) × Gated mode a.number
@@ -220,7 +217,7 @@ module _ (mode : Mode) (ed : Edition) (body second : List ℕ) (b : Bytes body) 
   refuses-only a (declining w h) = let g = (second-refused a).1 h in (ap served_on (taken w) ∙ g.0, g.1)
 
 -- ---- the calls, on a lent state that is fine
-module _ (n : Node) (ss cs out : List ℕ) (fine : lent_of n ss cs ≡ lent.Fine) where
+module _ (n : Node) (ss cs out : List ℕ) (fine : lent_of n ss cs ≡ Ok tt) where
   module _ (ed : Edition) (body : List ℕ) (x : Rpc) (w : Within (spoken (mode_of n.cache.flags) ed) body x) where
     -- serve: the gateway and the RPCs that the two bodies mean fix what is answered and left
     pub serve_fixed : (second : List ℕ) (y : Rpc) → Within (spoken (mode_of n.cache.flags) V12) second y

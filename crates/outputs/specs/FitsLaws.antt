@@ -1,9 +1,8 @@
 -- A message of an RPC is taken exactly where it is fit, by its fields.
-use Rattle.std.specs.Prelude.{ℕ, ◌-◌, ◌≤◌, ◌≡◌, refl, Bool, ◌↔◌, length, ltb}
+use Rattle.std.specs.Prelude.{Some, None, Ok, ℕ, ◌-◌, ◌≤◌, ◌≡◌, refl, Bool, ◌↔◌, length, ltb}
 use Rattle.std.proofs.Common.{sym, ap, ◌∙◌, arith, zero-add}
 use Rattle.std.proofs.Math.Path.{ap₂, subst}
 use mathlib.Core.List.{List, [], ◌∷◌}
-use Rattle.std.proofs.Math.Option.{none, some}
 use borrow.Author.Tests.{ltb-true, ltb-false, le-ltb, ne_eqb}
 use Rattle.basis.specs.declared.Mode.{Mode}
 use Rattle.basis.specs.Dialect.{mode_of}
@@ -25,10 +24,8 @@ use Rattle.rpc.specs.Grammar.{IsMessage, is-message, Each, none_left, ◌and◌}
 use Rattle.meaning.specs.ReadBack.{bytes_at}
 use Rattle.meaning.specs.Back.{message-from, message-seqno, message-signature, message-key, slot_value, whole_part}
 use Rattle.canon.specs.Messages.{raw-is}
-use Rattle.ids.specs.declared.MessageId.TheVariants as id
 use Rattle.ids.specs.Ids.{on_from, id_parts}
 use Rattle.ids.specs.IdLaws.{id-fits, id-some, parts-there}
-use Rattle.admission.specs.declared.Admission.TheVariants as admission
 use Rattle.admission.specs.Admission.{first_long, topics_of, admission_of}
 use Rattle.admission.specs.Fit.{KeyOf, given_at, Backed}
 use Rattle.admission.specs.Fit as fit
@@ -39,7 +36,7 @@ use Rattle.outputs.specs.Fits.{BackedMessage, signed, unsigned, FitMessage}
 -- ---- what field_at in the places of a message's fields is what the bytes mean
 given-bytes : (p : List ℕ) (q : Place) → given_at p q ≡ bytes_at p 0 q
 given-bytes p place.Absent = refl
-given-bytes p (place.Present a e) = sym (ap₂ (λ (x y : ℕ). some (between p x y)) (zero-add a) (zero-add e))
+given-bytes p (place.Present a e) = sym (ap₂ (λ (x y : ℕ). Some (between p x y)) (zero-add a) (zero-add e))
 
 pub record FieldsGiven (mode : Mode) (p : List ℕ) (m : RawMessage) : Type 0 where
   pub from : given_at p (slots_of mode kind.RawMessage p).first ≡ m.from
@@ -77,7 +74,7 @@ record FieldAt (p : List ℕ) (q : Place) (d : List ℕ) : Type 0 where
   bytes : between p start next ≡ d
   size : next - start ≡ length d
 
-field_at : (p : List ℕ) (q : Place) (d : List ℕ) → PlaceInside p q → given_at p q ≡ some d → FieldAt p q d
+field_at : (p : List ℕ) (q : Place) (d : List ℕ) → PlaceInside p q → given_at p q ≡ Some d → FieldAt p q d
 field_at p place.Absent d i h = clash (cc)
 field_at p (place.Present a e) d i h =
     let x : between p a e ≡ d = cc in
@@ -104,7 +101,7 @@ none-long none_left = refl
 none-long (◌and◌ {x = t} {xs = l} h r) = rw (le-ltb 1024 (length t) h) (none-long r)
 
 -- and one that is not there has none
-not-given : (p : List ℕ) (q : Place) → given_at p q ≡ none → q ≡ place.Absent
+not-given : (p : List ℕ) (q : Place) → given_at p q ≡ None → q ≡ place.Absent
 not-given p place.Absent h = refl
 not-given p (place.Present a e) h = clash (cc)
 
@@ -132,7 +129,7 @@ module _ (flags : ℕ) {p : List ℕ} {m : RawMessage} (i : IsMessage (mode_of f
       fit.unsigned t (not-given p (slots_of (mode_of flags) kind.RawMessage p).fourth (g.signature ∙ a))
       (not-given p (slots_of (mode_of flags) kind.RawMessage p).fifth (g.key ∙ b))
 
-  by-fields : (a e b f : ℕ) → admission_of flags p word ≡ admission.Fit a e b f → FitMessage flags m word
+  by-fields : (a e b f : ℕ) → admission_of flags p word ≡ Ok ((a, e), (b, f)) → FitMessage flags m word
   by-fields a e b f h =
       let x = (fit-exactly flags p word a e b f bp).0 h in
       let g = fields-given (mode_of flags) i in
@@ -159,7 +156,7 @@ module _ (flags : ℕ) {p : List ℕ} {m : RawMessage} (i : IsMessage (mode_of f
       }
 
   by-places : FitMessage flags m word → (a : ℕ) × (e : ℕ) × (b : ℕ) × (f : ℕ)
-      × (admission_of flags p word ≡ admission.Fit a e b f)
+      × (admission_of flags p word ≡ Ok ((a, e), (b, f)))
   unfolding id_parts
   by-places x =
       let g = fields-given (mode_of flags) i in
@@ -169,7 +166,7 @@ module _ (flags : ℕ) {p : List ℕ} {m : RawMessage} (i : IsMessage (mode_of f
       ∙ x.seqno) in
       let z = peer-size x.peer in
       let k = (topics-mean (mode_of flags) i).0 in
-      let parts : id_parts (mode_of flags) p ≡ id.Parts u.start u.next v.start v.next =
+      let parts : id_parts (mode_of flags) p ≡ Ok ((u.start, u.next), (v.start, v.next)) =
       ap₂ on_from u.there v.there
       ∙ simp (
         ne_eqb (u.next - u.start) 0 (λ q. absurd (omega (arith, u.size, z.0))),
@@ -198,6 +195,6 @@ module _ (flags : ℕ) {p : List ℕ} {m : RawMessage} (i : IsMessage (mode_of f
       )
 
   -- the bytes of a message are taken exactly where the message that they mean is fit
-  pub fit-message : ((a : ℕ) × (e : ℕ) × (b : ℕ) × (f : ℕ) × (admission_of flags p word ≡ admission.Fit a e b f))
+  pub fit-message : ((a : ℕ) × (e : ℕ) × (b : ℕ) × (f : ℕ) × (admission_of flags p word ≡ Ok ((a, e), (b, f))))
       ↔ FitMessage flags m word
   fit-message = (λ x. by-fields x.0 x.1 x.2 x.3 x.4, by-places)

@@ -1,6 +1,5 @@
 -- The ids that an RPC names: in its IHAVEs, in its IWANTs and in its IDONTWANTs, in their order.
-use Rattle.std.specs.Prelude.{ℕ, List, [], ◌∷◌, ◌++◌}
-use Rattle.std.proofs.Math.Option.{Option, none, some}
+use Rattle.std.specs.Prelude.{Option, Some, None, ℕ, List, [], ◌∷◌, ◌++◌}
 use Rattle.rpc.specs.Rpc.{ControlIHave, ControlIWant, ControlIDontWant, ControlMessage, Rpc}
 
 abbrev pub ihave_ids : List ControlIHave → List (List ℕ)
@@ -16,16 +15,16 @@ idontwant_ids [] = []
 idontwant_ids (w ∷ ws) = w.message_ids ++ idontwant_ids ws
 
 abbrev pub offers_in : Option ControlMessage → List (List ℕ)
-offers_in none = []
-offers_in (some c) = ihave_ids c.ihave
+offers_in None = []
+offers_in (Some c) = ihave_ids c.ihave
 
 abbrev pub wants_in : Option ControlMessage → List (List ℕ)
-wants_in none = []
-wants_in (some c) = iwant_ids c.iwant
+wants_in None = []
+wants_in (Some c) = iwant_ids c.iwant
 
 abbrev pub declined_in : Option ControlMessage → List (List ℕ)
-declined_in none = []
-declined_in (some c) = idontwant_ids c.idontwant
+declined_in None = []
+declined_in (Some c) = idontwant_ids c.idontwant
 
 abbrev pub offers_of : Rpc → List (List ℕ)
 offers_of x = offers_in x.control

@@ -1,8 +1,7 @@
 -- The ids that stand in the IHAVEs, in the IWANTs and, in 1.2, in the IDONTWANTs of a body are those that its RPC
 -- names; and they are no more than its records.
-use Rattle.std.specs.Prelude.{ℕ, ◌+◌, ◌≤◌, ◌≡◌, refl, cond, List, [], ◌∷◌, ◌++◌, length}
+use Rattle.std.specs.Prelude.{Option, Some, None, ℕ, ◌+◌, ◌≤◌, ◌≡◌, refl, cond, List, [], ◌∷◌, ◌++◌, length}
 use Rattle.std.proofs.Common.{sym, ap, ap₂, ◌∙◌, append_assoc, append-nil, arith, length-append}
-use Rattle.std.proofs.Math.Option.{Option, none, some}
 use Rattle.basis.specs.declared.Mode.{Mode}
 use Rattle.basis.specs.declared.Edition.TheVariants.{V12}
 use Rattle.basis.specs.declared.Dialect.{Dialect}
@@ -97,17 +96,17 @@ control-declines mode _ _ (is_control {s = s} {es = es} g h1 h2 h3 h4 h5) =
 -- ---- controls are joined, and so are the ids that they name
 offers_join : (c : ControlMessage) (o : Option ControlMessage)
     → ihave_ids c.ihave ++ offers_in o ≡ offers_in (join_to c o)
-offers_join c none = append-nil (ihave_ids c.ihave)
-offers_join c (some d) = all_append ihave_ids (λ h. h.message_ids) refl (λ h hs. refl) c.ihave d.ihave
+offers_join c None = append-nil (ihave_ids c.ihave)
+offers_join c (Some d) = all_append ihave_ids (λ h. h.message_ids) refl (λ h hs. refl) c.ihave d.ihave
 
 wants-join : (c : ControlMessage) (o : Option ControlMessage) → iwant_ids c.iwant ++ wants_in o ≡ wants_in (join_to c o)
-wants-join c none = append-nil (iwant_ids c.iwant)
-wants-join c (some d) = all_append iwant_ids (λ w. w.message_ids) refl (λ w ws. refl) c.iwant d.iwant
+wants-join c None = append-nil (iwant_ids c.iwant)
+wants-join c (Some d) = all_append iwant_ids (λ w. w.message_ids) refl (λ w ws. refl) c.iwant d.iwant
 
 declines-join : (c : ControlMessage) (o : Option ControlMessage)
     → idontwant_ids c.idontwant ++ declined_in o ≡ declined_in (join_to c o)
-declines-join c none = append-nil (idontwant_ids c.idontwant)
-declines-join c (some d) =
+declines-join c None = append-nil (idontwant_ids c.idontwant)
+declines-join c (Some d) =
     all_append idontwant_ids (λ w. w.message_ids) refl (λ w ws. refl) c.idontwant d.idontwant
 
 -- ---- the ids in the IHAVEs of a body, in its IWANTs, and in the IDONTWANTs of one that is read in 1.2
@@ -149,8 +148,8 @@ remaining-means {d} g h = ap₂ without (unwanted_means d.mode h) (wanted-once g
 
 -- ---- fewer ids than records: ids that are offered stand in an IHAVE, which is one record more
 offers_in_lem : (o : Option ControlMessage) → 1 ≤ length (offers_in o) → 1 + length (offers_in o) ≤ some_records o
-offers_in_lem none h = absurd (omega arith)
-offers_in_lem (some c) h =
+offers_in_lem None h = absurd (omega arith)
+offers_in_lem (Some c) h =
     let l = ids-few ihave_ids (λ h. h.message_ids) refl (λ h hs. refl) c.ihave in
     let k = some-ihave c.ihave h in
     omega arith

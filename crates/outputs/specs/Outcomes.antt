@@ -1,8 +1,7 @@
 -- What advertise, ask and serve answer (`t`, the scope's number and the values beside it) and how they leave the lent
 -- buffer (`left` of `out`), in the scope's words. What advertise and ask write means the same in every dialect; a
 -- reply, whose messages stand as they are cached, in every edition under the node's mode, and under that of groups.
-use Rattle.std.specs.Prelude.{ℕ, ◌+◌, ◌≤◌, ◌<◌, ◌≡◌, List, [], ◌∷◌, map, ◌↔◌, ◌⊎◌, length, take, drop}
-use Rattle.std.proofs.Math.Option.{none}
+use Rattle.std.specs.Prelude.{None, ℕ, ◌+◌, ◌≤◌, ◌<◌, ◌≡◌, List, [], ◌∷◌, map, ◌↔◌, ◌⊎◌, length, take, drop}
 use Rattle.basis.specs.declared.Mode.{Mode}
 use Rattle.basis.specs.declared.Mode.TheVariants.{Groups}
 use Rattle.basis.specs.declared.Edition.{Edition}
@@ -68,7 +67,7 @@ pub record ReplyIs (mode : Mode) (ms : List (List ℕ)) (out left : List ℕ) (k
   -- first mode refuses it
   pub means : (d : Dialect) → AsWide mode d.mode → Within d (take k left) reply
   pub no-subscriptions : reply.subscriptions ≡ []
-  pub no-control : reply.control ≡ none
+  pub no-control : reply.control ≡ None
   -- its messages are the first w of those, byte for byte
   pub messages : map (λ (m : RawMessage). m.raw) reply.publish ≡ take w ms
   -- how many were written, and how many cached ones were left

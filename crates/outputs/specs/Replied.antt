@@ -1,9 +1,9 @@
 -- A reply to a body is, in every edition under the node's mode, and under that of groups, a body that publishes cached
 -- messages, byte for byte, as many as the room has, from the first on; and it is canonical. What is answered counts
 -- them, and those that are left. A message that a second body declines is in neither count.
-use Rattle.std.specs.Prelude.{ℕ, suc, ◌+◌, ◌-◌, ◌≤◌, ◌<◌, ◌≡◌, refl, true, List, [], ◌∷◌, ◌++◌, map, length, take, ltb, eqb}
+use Rattle.std.specs.Prelude.{None, Result, Ok, Err, ℕ, suc, ◌+◌, ◌-◌, ◌≤◌, ◌<◌, ◌≡◌, refl, true, List, [], ◌∷◌, ◌++◌}
+use Rattle.std.specs.Prelude.{map, length, take, ltb, eqb}
 use Rattle.std.proofs.Common.{sym, ap, ◌∙◌, append-nil, arith, length-take-le, ltb-true, eqb-true}
-use Rattle.std.proofs.Math.Option.{none}
 use Rattle.std.proofs.Math.ListN.{length-map}
 use Rattle.std.proofs.lemmas.Bool.{eqb-false}
 use Rattle.basis.specs.declared.Mode.{Mode}
@@ -12,7 +12,7 @@ use Rattle.basis.specs.declared.Edition.{Edition}
 use Rattle.basis.specs.declared.Edition.TheVariants.{V12}
 use Rattle.basis.specs.declared.Dialect.{Dialect}
 use Rattle.basis.specs.Dialect.{mode_of, spoken}
-use Rattle.basis.specs.Cases.{either, clash}
+use Rattle.basis.specs.Cases.{either, clash, of-ok}
 use Rattle.basis.specs.Bytes.{Bytes}
 use Rattle.rows.specs.declared.Ring.{Ring}
 use Rattle.rows.specs.Rows.{place_of}
@@ -21,7 +21,6 @@ use Rattle.rows.specs.Ids.{among, distinct, index_of}
 use Rattle.rows.specs.IdsLaws.{shared, shared-few}
 use Rattle.rows.specs.Store.{id_at, ids_in}
 use Rattle.rows.specs.StoreLaws.{index-among}
-use Rattle.protobuf.specs.declared.Checked.TheVariants as checked
 use Rattle.protobuf.specs.Encode.{bytes_field}
 use Rattle.rpc.specs.Rpc.{RawMessage, Rpc}
 use Rattle.rpc.specs.Grammar.{Each, none_left, ◌and◌, Pairs, IsMessage, IsRpc}
@@ -35,11 +34,12 @@ use Rattle.canon.proofs.Taken.{Within}
 use Rattle.mcache.specs.declared.MessageCache.{MessageCache}
 use Rattle.mcache.specs.State.{message_in, ring_of, message_id_size}
 use Rattle.mcache.specs.StateLaws.{Tests, fine-tests}
+use Rattle.node.specs.declared.Reply.{Reply}
+use Rattle.node.specs.declared.ServeError.{ServeError}
+use Rattle.node.specs.declared.ServeError.TheVariants as serve
 use Rattle.node.specs.Parts.{at_path, fitting}
 use Rattle.node.specs.PartsLaws.{once-distinct, without-distinct, fitting-next}
 use Rattle.node.specs.declared.Node.{Node}
-use Rattle.node.specs.declared.Lent.TheVariants as lent
-use Rattle.node.specs.declared.Serve.TheVariants as serve
 use Rattle.node.specs.Gateway.{having, serve_of}
 use Rattle.node.specs.State.{gateway_in}
 use Rattle.node.specs.Calls.{lent_of, wanted, unwanted_in, remaining, rows_for, cached_of, room_of, served_of, reply_bytes}
@@ -102,7 +102,7 @@ pub record Replies (mode : Mode) (ms : List (List ℕ)) (out : List ℕ) : Type 
   -- a message with a group is read as it stands only where groups are passed over
   pub within : (d : Dialect) → AsWide mode d.mode → Within d (reply_bytes ms out) rpc
   pub no-subscriptions : rpc.subscriptions ≡ []
-  pub no-control : rpc.control ≡ none
+  pub no-control : rpc.control ≡ None
   -- the messages are the first of ms, byte for byte
   pub messages : map (λ (m : RawMessage). m.raw) rpc.publish ≡ take (served_of ms out) ms
   pub count : length rpc.publish ≡ served_of ms out
@@ -153,7 +153,7 @@ replies mode ms out h n =
       stays = λ d a. canon-written (w d a) ∙ published-bytes r.values ∙ e;
     }
 
-module _ (n : Node) (ss cs body second out : List ℕ) (fine : lent_of n ss cs ≡ lent.Fine) (bytes : Bytes cs) where
+module _ (n : Node) (ss cs body second out : List ℕ) (fine : lent_of n ss cs ≡ Ok tt) (bytes : Bytes cs) where
   abbrev ms : List (List ℕ)
   ms = cached_of n.cache cs (remaining (mode_of n.cache.flags) body second)
 
@@ -172,6 +172,22 @@ module _ (n : Node) (ss cs body second out : List ℕ) (fine : lent_of n ss cs �
   serve-stays = serve-means.stays
 
 -- ---- what is answered
+-- so many bytes and messages, and so many left
+abbrev pub wrote : ℕ → ℕ → ℕ → Result Reply ServeError
+wrote k w l = Ok (record { bytes = k; messages = w; left = l })
+
+-- or so many bytes that the first needs
+abbrev pub needs : ℕ → Result Reply ServeError
+needs n = Err (serve.Room n)
+
+of-wrote : {a b c k w l : ℕ} → wrote a b c ≡ wrote k w l → (a ≡ k) × (b ≡ w) × (c ≡ l)
+of-wrote e =
+    let r = of-ok e in
+    (ap (λ (x : Reply). x.bytes) r, ap (λ (x : Reply). x.messages) r, ap (λ (x : Reply). x.left) r)
+
+pub of-needs : {n k : ℕ} → needs n ≡ needs k → n ≡ k
+of-needs e = cc
+
 pub record Counts (ms : List (List ℕ)) (out : List ℕ) (bytes messages left : ℕ) : Type 0 where
   pub written : bytes ≡ length (reply_bytes ms out)
   pub served : messages ≡ served_of ms out
@@ -188,29 +204,34 @@ next-passes : (ms : List (List ℕ)) (out : List ℕ) → served_of ms out < len
 unfolding served_of
 next-passes ms out h = fitting-next 2 (room_of out) ms h
 
-pub serve-counts : (ms : List (List ℕ)) (out : List ℕ) (k w l : ℕ) → reply_to ms out ≡ serve.Reply k w l
+pub serve-counts : (ms : List (List ℕ)) (out : List ℕ) (k w l : ℕ) → reply_to ms out ≡ wrote k w l
     → Counts ms out k w l
 serve-counts [] out k w l h =
-    let a : k ≡ 0 = cc in let b : w ≡ 0 = cc in let c : l ≡ 0 = cc in
+    let p = of-wrote h in
     let n = none-count out in
-    record { written = a ∙ sym n.1; served = b ∙ sym n.0; all = omega arith; next = λ z. absurd (z c) }
+    record {
+      written = sym p.0 ∙ sym n.1;
+      served = sym p.1 ∙ sym n.0;
+      all = omega (arith, p.1, p.2);
+      next = λ z. absurd (z (sym p.2));
+    }
 serve-counts (m ∷ ms) out k w l h =
     let s = served_of (m ∷ ms) out in
     either (eqb s 0) (λ t. clash (let q = reply-short m ms out (eqb-true s 0 t) in cc))
     (λ t.
-    let q : serve.Reply (length (reply_bytes (m ∷ ms) out)) s (length (m ∷ ms) - s) ≡ serve.Reply k w l =
-    sym (reply-some m ms out (eqb-false s 0 t)) ∙ h in
-    let a : length (reply_bytes (m ∷ ms) out) ≡ k = cc in let b : s ≡ w = cc in let c : length (m ∷ ms) - s ≡ l = cc in
+    let p = of-wrote (sym (reply-some m ms out (eqb-false s 0 t)) ∙ h) in
+    let b : s ≡ w = p.1 in
+    let c : length (m ∷ ms) - s ≡ l = p.2 in
     let g = served-le (m ∷ ms) out in
     record {
-      written = sym a;
+      written = sym p.0;
       served = sym b;
       all = omega arith;
       next = λ z. rw (← b) (next-passes (m ∷ ms) out (omega (arith, z)));
     })
 
 -- no room for the first message: its field is longer than the room, and no byte is written
-pub serve-room : (ms : List (List ℕ)) (out : List ℕ) (k : ℕ) → reply_to ms out ≡ serve.Room k → (room_of out < k)
+pub serve-room : (ms : List (List ℕ)) (out : List ℕ) (k : ℕ) → reply_to ms out ≡ Err (serve.Room k) → (room_of out < k)
     × (reply_bytes ms out ≡ [])
 serve-room [] out k h = clash (cc)
 serve-room (m ∷ ms) out k h =
@@ -218,8 +239,7 @@ serve-room (m ∷ ms) out k h =
     either (eqb s 0)
     (λ t.
     let z = eqb-true s 0 t in
-    let q : serve.Room (length (bytes_field 2 m)) ≡ serve.Room k = sym (reply-short m ms out z) ∙ h in
-    let a : length (bytes_field 2 m) ≡ k = cc in
+    let a : length (bytes_field 2 m) ≡ k = of-needs (sym (reply-short m ms out z) ∙ h) in
     let n = next-passes (m ∷ ms) out (omega arith) in
     let f : length (repeated (bytes_field 2) (take (s + 1) (m ∷ ms))) ≡ length (bytes_field 2 m) =
     rw z (ap length (append-nil (bytes_field 2 m))) in
@@ -228,9 +248,9 @@ serve-room (m ∷ ms) out k h =
 
 -- ---- of a call: it counts the messages that are cached, named and not declined, those written and those left
 pub serve-tells : (n : Node) (ss cs : List ℕ) (ed : Edition) (body second out : List ℕ) (k w l : ℕ)
-    → lent_of n ss cs ≡ lent.Fine → accept_of (spoken (mode_of n.cache.flags) ed) body ≡ checked.Fine
-    → accept_of (spoken (mode_of n.cache.flags) V12) second ≡ checked.Fine
-    → serve_answer n ss cs ed body second out ≡ serve.Reply k w l
+    → lent_of n ss cs ≡ Ok tt → accept_of (spoken (mode_of n.cache.flags) ed) body ≡ Ok tt
+    → accept_of (spoken (mode_of n.cache.flags) V12) second ≡ Ok tt
+    → serve_answer n ss cs ed body second out ≡ wrote k w l
     → Counts (having (gateway_in n ss cs) (remaining (mode_of n.cache.flags) body second)) out k w l
 unfolding serve_of remaining wanted room_of
 serve-tells n ss cs ed body second out k w l fine ok too h =

@@ -1,9 +1,8 @@
 -- A request is a body with one IWANT that names the ids offered and not held, in every dialect; it is canonical, and
 -- never longer than the body that offers them.
-use Rattle.std.specs.Prelude.{ℕ, ◌+◌, ◌≤◌, ◌≡◌, refl, List, [], ◌∷◌, ◌++◌, length}
+use Rattle.std.specs.Prelude.{Option, Some, None, Ok, ℕ, ◌+◌, ◌≤◌, ◌≡◌, refl, List, [], ◌∷◌, ◌++◌, length}
 use Rattle.std.proofs.Math.Path.{sym}
 use Rattle.std.proofs.Common.{ap, ◌∙◌, append-nil, arith, length-append}
-use Rattle.std.proofs.Math.Option.{Option, none, some}
 use Rattle.basis.specs.declared.Edition.{Edition}
 use Rattle.basis.specs.Dialect.{mode_of, spoken}
 use Rattle.basis.specs.declared.Dialect.{Dialect}
@@ -11,7 +10,6 @@ use Rattle.basis.specs.Cases.{either}
 use Rattle.basis.specs.Bytes.{Bytes}
 use Rattle.rows.specs.Ids.{among}
 use Rattle.rows.specs.Store.{ids_in}
-use Rattle.protobuf.specs.declared.Checked.TheVariants.{Fine}
 use Rattle.protobuf.specs.Encode.{bytes_field}
 use Rattle.protobuf.specs.EncodeLaws.{heads_same}
 use Rattle.rpc.specs.Rpc.{ControlIHave, ControlMessage, Rpc}
@@ -154,8 +152,8 @@ control_in c h =
 offers_in_lem : (o : Option ControlMessage) → 1 ≤ length (offers_in o)
     → length (bytes_field 3 (bytes_field 2 (repeated (bytes_field 1) (offers_in o)))) ≤ length
     (optional (λ c. bytes_field 3 (encode_control c)) o)
-offers_in_lem none h = absurd (omega arith)
-offers_in_lem (some c) h = bytes_field_mono 3 (bytes_field 2 (repeated (bytes_field 1) (ihave_ids c.ihave)))
+offers_in_lem None h = absurd (omega arith)
+offers_in_lem (Some c) h = bytes_field_mono 3 (bytes_field 2 (repeated (bytes_field 1) (ihave_ids c.ihave)))
     (encode_control c) (control_in c h)
 
 rpc_in : (x : Rpc) → 1 ≤ length (offers_of x)
@@ -225,7 +223,7 @@ request-within n ss {body} w there =
 
 -- ---- the request for what is offered by a body that is taken
 module _ (ed : Edition) (n : Node) (ss body : List ℕ)
-    (fine : accept_of (spoken (mode_of n.cache.flags) ed) body ≡ Fine) (bytes : Bytes body) where
+    (fine : accept_of (spoken (mode_of n.cache.flags) ed) body ≡ Ok tt) (bytes : Bytes body) where
   abbrev asked : List (List ℕ)
   asked = unseen_of n ss (offered (mode_of n.cache.flags) body)
 

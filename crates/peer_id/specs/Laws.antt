@@ -1,16 +1,15 @@
 -- Laws of the varint definitions. A varint is read exactly where the bytes begin with the minimal encoding of a value
 -- below 2^64.
-use Rattle.std.specs.Prelude.{ℕ, zero, suc, ◌+◌, ◌*◌, ◌/◌, ◌%◌, ◌^◌, ◌≤◌, ◌<◌, ◌≡◌, refl, List, [], ◌∷◌, ◌++◌, ◌≢◌, ◌↔◌, length, drop, ltb, leb, eqb}
+use Rattle.std.specs.Prelude.{Result, Ok, Err, ℕ, zero, suc, ◌+◌, ◌*◌, ◌/◌, ◌%◌, ◌^◌, ◌≤◌, ◌<◌, ◌≡◌, refl, List, [], ◌∷◌, ◌++◌, ◌≢◌, ◌↔◌, length, drop, ltb, leb, eqb}
 use Rattle.std.proofs.Common.{sym, ap, ap₂, subst, ◌∙◌, arith, pow-suc, one-add, length-drop, lt-ltb, le-ltb, ne_eqb, le-leb, ltb-true, ltb-false, leb-true, leb-false, eqb-true}
 use Rattle.std.proofs.Math.Nat.{one-le-pow}
 use Rattle.std.proofs.lemmas.Bool.{eqb-false}
-use Rattle.basis.specs.Cases.{either, clash}
+use Rattle.basis.specs.Cases.{either, clash, ok-two, of-ok-two}
 use Rattle.basis.specs.Bytes.{Bytes}
 use Rattle.peer_id.specs.declared.VarintError.TheVariants.{BufferTooShort, Overflow, NonCanonical}
-use Rattle.peer_id.specs.declared.Uvarint.{Uvarint}
-use Rattle.peer_id.specs.declared.Uvarint.TheVariants.{Value, Refused}
 use Rattle.peer_id.specs.declared.Group.{Group}
-use Rattle.peer_id.specs.declared.Group.TheVariants.{More, Last, Refused as Bad}
+use Rattle.peer_id.specs.declared.Group.TheVariants as group
+use Rattle.peer_id.specs.declared.VarintError.{VarintError}
 use Rattle.peer_id.specs.Uvarint.{bytes_of, uvarint, group_of, read_from, read_uvarint, below, on_group}
 
 -- ---- the encoding, one byte on
@@ -54,11 +53,11 @@ pub at_most_ten : (n : ℕ) → n < 2 ^ 64 → length (uvarint n) ≤ 10
 at_most_ten n h = at_most-from 9 n h
 
 -- ---- what each answer to a byte tells
-pub data Says (k b : ℕ) : Group → Type 0 where
-  more : k ≢ 9 → 128 ≤ b → Says k b More
-  last : b < 128 → (k ≡ 9 → b < 2) → (b ≡ 0 → k ≡ 0) → Says k b Last
-  large : k ≡ 9 → 1 < b → Says k b (Bad Overflow)
-  padded : b ≡ 0 → k ≢ 0 → Says k b (Bad NonCanonical)
+pub data Says (k b : ℕ) : Result Group VarintError → Type 0 where
+  more : k ≢ 9 → 128 ≤ b → Says k b (Ok group.More)
+  last : b < 128 → (k ≡ 9 → b < 2) → (b ≡ 0 → k ≡ 0) → Says k b (Ok group.Last)
+  large : k ≡ 9 → 1 < b → Says k b (Err Overflow)
+  padded : b ≡ 0 → k ≢ 0 → Says k b (Err NonCanonical)
 
 pub says : (k b : ℕ) → Says k b (group_of k b)
 unfolding group_of
@@ -77,34 +76,35 @@ says k b =
     (λ u. simp (p, q, r, u) (padded (eqb-true b 0 r) (eqb-false k 0 u))))
     (λ r. simp (p, q, r) (last hq (λ z. absurd (eqb-false k 9 p z)) (λ z. absurd (eqb-false b 0 r z))))))
 
-of-last : {k b : ℕ} → Says k b Last → (b < 128) × (k ≡ 9 → b < 2) × (b ≡ 0 → k ≡ 0)
+of-last : {k b : ℕ} → Says k b (Ok group.Last) → (b < 128) × (k ≡ 9 → b < 2) × (b ≡ 0 → k ≡ 0)
 of-last (last p q r) = (p, q, r)
 
-pub group-last : (k b : ℕ) → Last ≡ group_of k b → (b < 128) × (k ≡ 9 → b < 2) × (b ≡ 0 → k ≡ 0)
+pub group-last : (k b : ℕ) → Ok group.Last ≡ group_of k b → (b < 128) × (k ≡ 9 → b < 2) × (b ≡ 0 → k ≡ 0)
 group-last k b e = of-last (subst (Says k b) (sym e) (says k b))
 
-of-more : {k b : ℕ} → Says k b More → (k ≢ 9) × (128 ≤ b)
+of-more : {k b : ℕ} → Says k b (Ok group.More) → (k ≢ 9) × (128 ≤ b)
 of-more (more p q) = (p, q)
 
-pub group-more : (k b : ℕ) → More ≡ group_of k b → (k ≢ 9) × (128 ≤ b)
+pub group-more : (k b : ℕ) → Ok group.More ≡ group_of k b → (k ≢ 9) × (128 ≤ b)
 group-more k b e = of-more (subst (Says k b) (sym e) (says k b))
 
-to_last : {k b : ℕ} {g : Group} → Says k b g → b < 128 → (k ≡ 9 → b < 2) → (b ≡ 0 → k ≡ 0) → g ≡ Last
+to_last : {k b : ℕ} {g : Result Group VarintError} → Says k b g → b < 128 → (k ≡ 9 → b < 2) → (b ≡ 0 → k ≡ 0)
+    → g ≡ Ok group.Last
 to_last (more p q) h n z = absurd (omega arith)
 to_last (last p q r) h n z = refl
 to_last (large p q) h n z = let l = n p in absurd (omega arith)
 to_last (padded p q) h n z = absurd (q (z p))
 
-is_last : (k b : ℕ) → b < 128 → (k ≡ 9 → b < 2) → (b ≡ 0 → k ≡ 0) → group_of k b ≡ Last
+is_last : (k b : ℕ) → b < 128 → (k ≡ 9 → b < 2) → (b ≡ 0 → k ≡ 0) → group_of k b ≡ Ok group.Last
 is_last k b h n z = to_last (says k b) h n z
 
-pub is-more : (k b : ℕ) → k ≢ 9 → 128 ≤ b → group_of k b ≡ More
+pub is-more : (k b : ℕ) → k ≢ 9 → 128 ≤ b → group_of k b ≡ Ok group.More
 unfolding group_of
 is-more k b n h = simp (ne_eqb k 9 n, le-leb 128 b h)
 
 -- ---- reading what was written: k bytes passed, f more allowed after the next
 written_small : (f k x : ℕ) (rest : List ℕ) → k + f ≡ 9 → x < 2 * 128 ^ f → (x ≡ 0 → k ≡ 0) → x < 128
-    → read_from k (uvarint x ++ rest) ≡ Value x (length (uvarint x))
+    → read_from k (uvarint x ++ rest) ≡ Ok (x, length (uvarint x))
 unfolding read_from
 written_small f k x rest e b z h = rw (uvarint-small x h) (simp (is_last k x h (λ p. tenth f p e b) z))
   where
@@ -113,7 +113,7 @@ written_small f k x rest e b z h = rw (uvarint-small x h) (simp (is_last k x h (
     tenth (suc f) p e b = absurd (omega arith)
 
 written_from : (f k x : ℕ) (rest : List ℕ) → k + f ≡ 9 → x < 2 * 128 ^ f → (x ≡ 0 → k ≡ 0)
-    → read_from k (uvarint x ++ rest) ≡ Value x (length (uvarint x))
+    → read_from k (uvarint x ++ rest) ≡ Ok (x, length (uvarint x))
 unfolding read_from
 written_from zero k x rest e b z = written_small zero k x rest e b z (omega arith)
 written_from (suc f) k x rest e b z =
@@ -124,10 +124,10 @@ written_from (suc f) k x rest e b z =
       is-more k (x % 128 + 128) (omega arith) (omega arith),
       written_from f (k + 1) (x / 128) rest (omega arith) (omega (arith, pow-suc 128 f)) (λ z. absurd (omega arith)),
     )
-    (ap₂ Value (omega arith) (omega arith))))
+    (ok-two (omega arith) (omega arith))))
 
 -- reading what was written gives the value back, whatever follows it
-pub read-written : (x : ℕ) (rest : List ℕ) → x < 2 ^ 64 → read_uvarint (uvarint x ++ rest) ≡ Value x (length (uvarint x))
+pub read-written : (x : ℕ) (rest : List ℕ) → x < 2 ^ 64 → read_uvarint (uvarint x ++ rest) ≡ Ok (x, length (uvarint x))
 unfolding read_uvarint
 read-written x rest h = written_from 9 0 x rest refl h (λ z. refl)
 
@@ -138,9 +138,9 @@ record Taken (f k : ℕ) (s : List ℕ) (v n : ℕ) : Type 0 where
   bound : v < 2 * 128 ^ f
   minimal : v ≡ 0 → k ≡ 0
 
-on_last : (f k b : ℕ) (s : List ℕ) (v n : ℕ) → k + f ≡ 9 → Says k b Last → Value b 1 ≡ Value v n → Taken f k (b ∷ s) v n
-on_last f k b s v n e (last p q r) h =
-    let ev : b ≡ v = cc in let en : 1 ≡ n = cc in
+on_last : (f k b : ℕ) (s : List ℕ) (v n : ℕ) → k + f ≡ 9 → Says k b (Ok group.Last) → b ≡ v → 1 ≡ n
+    → Taken f k (b ∷ s) v n
+on_last f k b s v n e (last p q r) ev en =
     rw (← ev, ← en)
     (record { size = rw (uvarint-small b p); front = rw (uvarint-small b p); bound = last-bound f e; minimal = r })
   where
@@ -148,13 +148,14 @@ on_last f k b s v n e (last p q r) h =
     last-bound zero e = q (omega arith)
     last-bound (suc f) e = omega (arith, pow-suc 128 f, one-le-pow f 128 (omega arith))
 
-on_more : (f k b : ℕ) (s : List ℕ) (v n : ℕ) (r : Uvarint) → b < 256 → k + suc f ≡ 9 → 128 ≤ b → below b r ≡ Value v n
-    → ((x m : ℕ) → r ≡ Value x m → Taken f (k + 1) s x m) → Taken (suc f) k (b ∷ s) v n
-on_more f k b s v n (Value x m) small e h q ih =
+on_more : (f k b : ℕ) (s : List ℕ) (v n : ℕ) (r : Result (ℕ × ℕ) VarintError) → b < 256 → k + suc f ≡ 9 → 128 ≤ b
+    → below b r ≡ Ok (v, n) → ((x m : ℕ) → r ≡ Ok (x, m) → Taken f (k + 1) s x m) → Taken (suc f) k (b ∷ s) v n
+on_more f k b s v n (Ok (x, m)) small e h q ih =
     let t = ih x m refl in
     let w : ℕ = b % 128 + 128 * x in
     let nz : x ≢ 0 = λ z. let y = t.minimal z in omega arith in
-    let ev : w ≡ v = cc in let en : 1 + m ≡ n = cc in
+    let o = of-ok-two q in
+    let ev : w ≡ v = o.0 in let en : 1 + m ≡ n = o.1 in
     let g : uvarint w ≡ b ∷ uvarint x = uvarint_big w (omega arith) ∙ ap₂ (λ (p y : ℕ). p ∷ uvarint y) (omega arith)
     (omega arith) in
     rw (← ev, ← en)
@@ -164,20 +165,20 @@ on_more f k b s v n (Value x m) small e h q ih =
       bound = omega (arith, pow-suc 128 f, t.bound);
       minimal = λ z. absurd (omega arith);
     })
-on_more f k b s v n (Refused why) small e h q ih = clash (cc)
+on_more f k b s v n (Err why) small e h q ih = clash (cc)
 
-on_byte : (f k b : ℕ) (s : List ℕ) (v n : ℕ) (g : Group) → Says k b g → b < 256 → k + f ≡ 9
-    → on_group g b (read_from (k + 1) s) ≡ Value v n
-    → ((g : ℕ) → k + 1 + g ≡ 9 → (x m : ℕ) → read_from (k + 1) s ≡ Value x m → Taken g (k + 1) s x m)
+on_byte : (f k b : ℕ) (s : List ℕ) (v n : ℕ) (g : Result Group VarintError) → Says k b g → b < 256 → k + f ≡ 9
+    → on_group g b (read_from (k + 1) s) ≡ Ok (v, n)
+    → ((g : ℕ) → k + 1 + g ≡ 9 → (x m : ℕ) → read_from (k + 1) s ≡ Ok (x, m) → Taken g (k + 1) s x m)
     → Taken f k (b ∷ s) v n
 on_byte zero k b s v n _ (more p q) small e h ih = absurd (p (omega arith))
 on_byte (suc f) k b s v n _ (more p q) small e h ih =
     on_more f k b s v n (read_from (k + 1) s) small e q h (ih f (omega arith))
-on_byte f k b s v n _ (last p q r) small e h ih = on_last f k b s v n e (last p q r) h
+on_byte f k b s v n _ (last p q r) small e h ih = let o = of-ok-two h in on_last f k b s v n e (last p q r) o.0 o.1
 on_byte f k b s v n _ (large p q) small e h ih = clash (cc)
 on_byte f k b s v n _ (padded p q) small e h ih = clash (cc)
 
-accepted-from : (s : List ℕ) (f k v n : ℕ) → Bytes s → k + f ≡ 9 → read_from k s ≡ Value v n → Taken f k s v n
+accepted-from : (s : List ℕ) (f k v n : ℕ) → Bytes s → k + f ≡ 9 → read_from k s ≡ Ok (v, n) → Taken f k s v n
 unfolding read_from
 accepted-from [] f k v n bs e h = clash (cc)
 accepted-from (b ∷ s) f k v n bs e h = on_byte f k b s v n (group_of k b) (says k b) (bs 0) e h
@@ -189,34 +190,34 @@ pub record Begins (s : List ℕ) (v n : ℕ) : Type 0 where
   pub size : n ≡ length (uvarint v)
   pub bound : v < 2 ^ 64
 
-pub accepted : (s : List ℕ) (v n : ℕ) → Bytes s → read_uvarint s ≡ Value v n → Begins s v n
+pub accepted : (s : List ℕ) (v n : ℕ) → Bytes s → read_uvarint s ≡ Ok (v, n) → Begins s v n
 unfolding read_uvarint
 accepted s v n bs h = let t = accepted-from s 9 0 v n bs refl h in
     record { front = t.front; size = t.size; bound = t.bound }
 
-pub accepted-exactly : (s : List ℕ) (v n : ℕ) → Bytes s → (read_uvarint s ≡ Value v n) ↔ Begins s v n
+pub accepted-exactly : (s : List ℕ) (v n : ℕ) → Bytes s → (read_uvarint s ≡ Ok (v, n)) ↔ Begins s v n
 accepted-exactly s v n bs =
     (accepted s v n bs, λ h. rw (h.front, h.size) (read-written v (drop (length (uvarint v)) s) h.bound))
 
 -- ---- how many bytes are used
-used-byte : (b : ℕ) (s : List ℕ) (v n : ℕ) (g : Group) (r : Uvarint) → on_group g b r ≡ Value v n
-    → ((x m : ℕ) → r ≡ Value x m → (1 ≤ m) × (m ≤ length s)) → (1 ≤ n) × (n ≤ suc (length s))
-used-byte b s v n More (Value x m) h ih = let l = ih x m refl in let e : 1 + m ≡ n = cc in omega arith
-used-byte b s v n More (Refused why) h ih = clash (cc)
-used-byte b s v n Last r h ih = let e : 1 ≡ n = cc in omega arith
-used-byte b s v n (Bad why) r h ih = clash (cc)
+used-byte : (b : ℕ) (s : List ℕ) (v n : ℕ) (g : Result Group VarintError) (r : Result (ℕ × ℕ) VarintError) → on_group g b r ≡ Ok (v, n)
+    → ((x m : ℕ) → r ≡ Ok (x, m) → (1 ≤ m) × (m ≤ length s)) → (1 ≤ n) × (n ≤ suc (length s))
+used-byte b s v n (Ok group.More) (Ok (x, m)) h ih = let l = ih x m refl in omega (arith, (of-ok-two h).1)
+used-byte b s v n (Ok group.More) (Err why) h ih = clash (cc)
+used-byte b s v n (Ok group.Last) r h ih = omega (arith, (of-ok-two h).1)
+used-byte b s v n (Err why) r h ih = clash (cc)
 
-used-from : (s : List ℕ) (k v n : ℕ) → read_from k s ≡ Value v n → (1 ≤ n) × (n ≤ length s)
+used-from : (s : List ℕ) (k v n : ℕ) → read_from k s ≡ Ok (v, n) → (1 ≤ n) × (n ≤ length s)
 unfolding read_from
 used-from [] k v n h = clash (cc)
 used-from (b ∷ s) k v n h = used-byte b s v n (group_of k b) (read_from (k + 1) s) h (λ x m q. used-from s (k + 1) x m q)
 
 -- a varint that is read at a place moves on, and ends within the bytes
-pub used : (s : List ℕ) (at v n : ℕ) → Value v n ≡ read_uvarint (drop at s) → (1 ≤ n) × (at + n ≤ length s)
+pub used : (s : List ℕ) (at v n : ℕ) → Ok (v, n) ≡ read_uvarint (drop at s) → (1 ≤ n) × (at + n ≤ length s)
 unfolding read_uvarint
 used s at v n e = let u = used-from (drop at s) 0 v n (sym e) in omega (arith, length-drop at s)
 
 -- nothing is no varint
-pub read_none : read_uvarint [] ≡ Refused BufferTooShort
+pub read_none : read_uvarint [] ≡ Err BufferTooShort
 unfolding read_uvarint read_from
 read_none = refl

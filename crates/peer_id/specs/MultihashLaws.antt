@@ -1,10 +1,10 @@
 -- Bytes are read as a peer id exactly where they are one by the document, and as the same one.
-use Rattle.std.specs.Prelude.{ℕ, ◌+◌, ◌≤◌, ◌<◌, ◌≡◌, refl, List, [], ◌∷◌, ◌++◌, Bool, cond, ◌↔◌, length, take, drop, get_or, eqb, ltb}
+use Rattle.std.specs.Prelude.{Option, Some, None, ℕ, ◌+◌, ◌≤◌, ◌<◌, ◌≡◌, refl, List, [], ◌∷◌, ◌++◌, Bool, cond, ◌↔◌, length, take, drop, get_or, eqb, ltb}
 use Rattle.std.proofs.Common.{sym, ap, ap₂, subst, ◌∙◌, arith, take_at, drop_at, eqb-true, ltb-true, ltb-false, eq-eqb, le-ltb}
 use Rattle.std.proofs.lemmas.Bool.{eqb-false}
 use Rattle.basis.specs.Cases.{either, clash}
 use Rattle.peer_id.specs.declared.PeerId.{PeerId}
-use Rattle.peer_id.specs.declared.PeerId.TheVariants.{Identity, Sha256, NotPeerId}
+use Rattle.peer_id.specs.declared.PeerId.TheVariants as who
 use Rattle.peer_id.specs.Laws.{uvarint-small}
 use Rattle.peer_id.specs.Multihash.{multihash, Hash, identity, sha_256, IsPeerId, inlined, hashed}
 use Rattle.peer_id.specs.PeerId.{hash_of, from_bytes, digest_of}
@@ -15,15 +15,15 @@ unfolding multihash
 multihash-bytes code d h k = rw (uvarint-small code h, uvarint-small (length d) k)
 
 -- which answer a hash is
-abbrev pub read_as : Hash → PeerId
-read_as identity = Identity
-read_as sha_256 = Sha256
+abbrev pub read_as : Hash → Option PeerId
+read_as identity = Some who.Identity
+read_as sha_256 = Some who.Sha256
 
 -- ---- what is read is a peer id
-data Reads (code size : ℕ) : PeerId → Type 0 where
-  as_identity : code ≡ 0x00 → size ≤ 42 → Reads code size Identity
-  as_sha_256 : code ≡ 0x12 → size ≡ 32 → Reads code size Sha256
-  as_none : (code ≡ 0x00 → size ≤ 42 → ⊥) → (code ≡ 0x12 → size ≡ 32 → ⊥) → Reads code size NotPeerId
+data Reads (code size : ℕ) : Option PeerId → Type 0 where
+  as_identity : code ≡ 0x00 → size ≤ 42 → Reads code size (Some who.Identity)
+  as_sha_256 : code ≡ 0x12 → size ≡ 32 → Reads code size (Some who.Sha256)
+  as_none : (code ≡ 0x00 → size ≤ 42 → ⊥) → (code ≡ 0x12 → size ≡ 32 → ⊥) → Reads code size None
 
 reads : (code size : ℕ) → Reads code size (hash_of code size)
 unfolding hash_of
@@ -46,12 +46,12 @@ two_on (a ∷ []) h = absurd (omega arith)
 two_on (a ∷ b ∷ d) h = refl
 
 module _ (code : ℕ) (d : List ℕ) where
-  is-inlined : Reads code (length d) Identity → IsPeerId (code ∷ length d ∷ d) identity d
+  is-inlined : Reads code (length d) (Some who.Identity) → IsPeerId (code ∷ length d ∷ d) identity d
   is-inlined (as_identity p q) =
       subst (λ (s : List ℕ). IsPeerId s identity d)
       (multihash-bytes 0x00 d (omega arith) (omega arith) ∙ ap (λ (n : ℕ). n ∷ length d ∷ d) (sym p)) (inlined d q)
 
-  is-hashed : Reads code (length d) Sha256 → IsPeerId (code ∷ length d ∷ d) sha_256 d
+  is-hashed : Reads code (length d) (Some who.Sha256) → IsPeerId (code ∷ length d ∷ d) sha_256 d
   is-hashed (as_sha_256 p q) =
       subst (λ (s : List ℕ). IsPeerId s sha_256 d)
       (multihash-bytes 0x12 d (omega arith) (omega arith) ∙ ap (λ (n : ℕ). n ∷ length d ∷ d) (sym p)) (hashed d q)
@@ -60,7 +60,7 @@ module _ (code : ℕ) (d : List ℕ) where
   made identity r = is-inlined r
   made sha_256 r = is-hashed r
 
-not_none : {A : Type 0} (h : Hash) → NotPeerId ≡ read_as h → A
+not_none : {A : Type 0} (h : Hash) → None ≡ read_as h → A
 not_none identity e = clash (cc)
 not_none sha_256 e = clash (cc)
 
@@ -82,7 +82,7 @@ of-read s h e =
 read_as_lem : (code : ℕ) (d : List ℕ) → from_bytes (code ∷ length d ∷ d) ≡ hash_of code (length d)
 unfolding from_bytes
 read_as_lem code d =
-    ap (λ (t : Bool). cond t (hash_of code (length d)) NotPeerId) (eq-eqb (2 + length d)
+    ap (λ (t : Bool). cond t (hash_of code (length d)) None) (eq-eqb (2 + length d)
     (length (code ∷ length d ∷ d)) (omega arith))
 
 is_read_lem : {s d : List ℕ} {h : Hash} → IsPeerId s h d → (from_bytes s ≡ read_as h) × (digest_of s ≡ d)
@@ -99,12 +99,12 @@ pub peer-exactly : (s d : List ℕ) (h : Hash) → ((from_bytes s ≡ read_as h)
 peer-exactly s d h = (λ x. subst (IsPeerId s h) x.1 (of-read s h x.0), is_read_lem)
 
 -- and are refused exactly where they are none
-of-answer : (r : PeerId) → ((h : Hash) → r ≡ read_as h → ⊥) → r ≡ NotPeerId
-of-answer Identity n = absurd (n identity refl)
-of-answer Sha256 n = absurd (n sha_256 refl)
-of-answer NotPeerId n = refl
+of-answer : (r : Option PeerId) → ((h : Hash) → r ≡ read_as h → ⊥) → r ≡ None
+of-answer (Some who.Identity) n = absurd (n identity refl)
+of-answer (Some who.Sha256) n = absurd (n sha_256 refl)
+of-answer None n = refl
 
-pub no-peer-exactly : (s : List ℕ) → (from_bytes s ≡ NotPeerId) ↔ ((h : Hash) (d : List ℕ) → IsPeerId s h d → ⊥)
+pub no-peer-exactly : (s : List ℕ) → (from_bytes s ≡ None) ↔ ((h : Hash) (d : List ℕ) → IsPeerId s h d → ⊥)
 no-peer-exactly s = (
   λ e h d x. not_none h (sym e ∙ (is_read_lem x).0),
   λ n. of-answer (from_bytes s) (λ h e. n h (digest_of s) (of-read s h e)),

@@ -10,7 +10,7 @@ ghost use Rattle.basis.specs.Unique.{Leaves};
 ghost use Rattle.peer_id.specs.Uvarint.{uvarint, group_of, read_uvarint};
 ghost use Rattle.peer_id.specs.PeerId.{hash_of, from_bytes};
 
-use basis::{Written, has_room};
+use basis::{ShortRoom, has_room};
 
 // Why there is no varint: refusals 1, 2 and 3.
 #[derive(Clone, Copy)]
@@ -20,85 +20,49 @@ pub enum VarintError {
     NonCanonical,
 }
 
-// What reading finds: a value and how many bytes it took, or why there is none.
-#[derive(Clone, Copy)]
-pub enum Uvarint {
-    Value { value: u64, used: usize },
-    Refused(VarintError),
-}
-
-// What a byte says of the varint that it stands in.
+// What a byte says of the varint that it stands in: more bytes follow, or it is the last.
 #[derive(Clone, Copy)]
 pub enum Group {
     More,
     Last,
-    Refused(VarintError),
 }
 
 // What the byte b says, with k bytes before it.
-fn group_says(k: usize, b: u8) -> Group
+#[tactic(auto, unfolding(crate::specs::Uvarint::group_of))]
+fn group_says(k: usize, b: u8) -> Result<Group, VarintError>
     ensures { result ≡ group_of k b }
 {
-    if k == 9 {
-        if 1 < b {
-            return Group::Refused(VarintError::Overflow);
-        }
-        if b == 0 {
-            return Group::Refused(VarintError::NonCanonical);
-        }
-        return Group::Last;
+    match (k, b) {
+        (9, 2..) => Err(VarintError::Overflow),
+        (1.., 0) => Err(VarintError::NonCanonical),
+        (_, 128..) => Ok(Group::More),
+        _ => Ok(Group::Last),
     }
-    if 128 <= b {
-        return Group::More;
-    }
-    if b == 0 {
-        if k == 0 {
-            return Group::Last;
-        }
-        return Group::Refused(VarintError::NonCanonical);
-    }
-    Group::Last
 }
 
-// The varint that the input begins with.
-pub fn read_uvarint(input: &[u8]) -> Uvarint
+// The varint that the input begins with, and how many bytes it took.
+pub fn read_uvarint(input: &[u8]) -> Result<(u64, usize), VarintError>
     ensures { result ≡ read_uvarint input.now }
 {
-    let mut k: usize = 0;
     let mut value: u64 = 0;
     let mut weight: u64 = 1;
-    while k < input.len() {
-        let b = input[k];
-        let g = group_says(k, b);
-        match g {
-            Group::Refused(why) => {
-                return Uvarint::Refused(why);
-            }
-            Group::Last => {
-                return Uvarint::Value {
-                    value: value + weight * (b as u64),
-                    used: k + 1,
-                };
-            }
+    for (k, &b) in input.iter().enumerate() {
+        match group_says(k, b)? {
+            Group::Last => return Ok((value + weight * (b as u64), k + 1)),
             Group::More => {
-                value = value + weight * ((b % 128) as u64);
-                weight = weight * 128;
-                k = k + 1;
+                value += weight * (b as u64 % 128);
+                weight *= 128;
             }
         }
     }
-    Uvarint::Refused(VarintError::BufferTooShort)
+    Err(VarintError::BufferTooShort)
 }
 
-// How many bytes a value takes: the bits that it needs, at least one, divided by seven and rounded up.
+// How many bytes a value takes: one, and one more for each seven bits below its highest.
 pub fn uvarint_len(value: u64) -> usize
     ensures { result ≡ length (uvarint value) }
 {
-    let mut bits = 64 - u64::leading_zeros(value);
-    if bits < 1 {
-        bits = 1;
-    }
-    ((bits + 6) / 7) as usize
+    value.max(1).ilog2() as usize / 7 + 1
 }
 
 // Writes a value at `at`, where it fits, and says where it ends.
@@ -111,36 +75,37 @@ fn spell_uvarint(value: u64, out: &mut [u8], at: usize) -> usize
     let mut i = at;
     while 128 <= v {
         out[i] = (v % 128) as u8 + 128;
-        v = v / 128;
-        i = i + 1;
+        v /= 128;
+        i += 1;
     }
     out[i] = v as u8;
     i + 1
 }
 
 // Writes a value at `at` and says where it ends; where it does not fit, it writes nothing and says `at`.
+#[tactic(auto, unfolding(basis::specs::Writing::end_in, basis::specs::Writing::set_in))]
 pub fn put_uvarint(value: u64, out: &mut [u8], at: usize) -> usize
     ensures { Leaves (end_in (length (uvarint value)) at (uvarint value) out.old)
         (set_in (length (uvarint value)) at (uvarint value) out.old) result out.new }
 {
     let len = uvarint_len(value);
     if has_room(out.len(), at, len) {
-        return spell_uvarint(value, out, at);
+        spell_uvarint(value, out, at)
+    } else {
+        at
     }
-    at
 }
 
 // Writes a value at the front of out; where it does not fit, nothing.
-pub fn write_uvarint(value: u64, out: &mut [u8]) -> Written
+pub fn write_uvarint(value: u64, out: &mut [u8]) -> Result<usize, ShortRoom>
     ensures { Leaves (answer (uvarint value) out.old) (written (uvarint value) out.old) result
         out.new }
 {
     let len = uvarint_len(value);
     if out.len() < len {
-        return Written::Room(len);
+        return Err(ShortRoom { needed: len });
     }
-    let end = spell_uvarint(value, out, 0);
-    Written::Bytes(end)
+    Ok(spell_uvarint(value, out, 0))
 }
 
 // The multihash codes of a peer id, the digest inline or hashed.
@@ -156,49 +121,35 @@ pub const SHA256_LENGTH: usize = 32;
 // How many bytes stand before the digest: code and size are below 128, a byte each.
 pub const DIGEST_START: usize = 2;
 
-// What bytes are as a peer id: an identity or a SHA-256 multihash, whose digest is all that stands behind the first two bytes; or none.
+// What a peer id is: an identity or a SHA-256 multihash, whose digest is all that stands behind the first two bytes.
 #[derive(Clone, Copy)]
 pub enum PeerId {
     Identity,
     Sha256,
-    NotPeerId,
 }
 
-// A byte as a length.
-fn wide(b: u8) -> usize
-    ensures { result ≡ b }
-{
-    b as usize
-}
-
-// Which peer id a multihash of this code is, with a digest of so many bytes.
-fn hash_of(code: u8, size: usize) -> PeerId
+// Which peer id a multihash of this code is, with a digest of so many bytes; none of another.
+#[tactic(auto, unfolding(crate::specs::PeerId::hash_of))]
+fn hash_of(code: u8, size: usize) -> Option<PeerId>
     ensures { result ≡ hash_of code size }
 {
-    if code == IDENTITY_MULTIHASH_CODE {
-        if MAX_INLINE_KEY_LENGTH < size {
-            return PeerId::NotPeerId;
-        }
-        return PeerId::Identity;
+    match (code, size) {
+        (IDENTITY_MULTIHASH_CODE, 0..=MAX_INLINE_KEY_LENGTH) => Some(PeerId::Identity),
+        (SHA256_MULTIHASH_CODE, SHA256_LENGTH) => Some(PeerId::Sha256),
+        _ => None,
     }
-    if code == SHA256_MULTIHASH_CODE {
-        if size == SHA256_LENGTH {
-            return PeerId::Sha256;
-        }
-    }
-    PeerId::NotPeerId
 }
 
-// Which peer id some bytes are.
-pub fn from_bytes(multihash: &[u8]) -> PeerId
+// Which peer id some bytes are, if they are one.
+pub fn from_bytes(multihash: &[u8]) -> Option<PeerId>
     ensures { result ≡ from_bytes multihash.now }
 {
-    if multihash.len() < DIGEST_START {
-        return PeerId::NotPeerId;
+    let [code, size, digest @ ..] = multihash else {
+        return None;
+    };
+    let size = usize::from(*size);
+    if size != digest.len() {
+        return None;
     }
-    let size = wide(multihash[1]);
-    if size != multihash.len() - DIGEST_START {
-        return PeerId::NotPeerId;
-    }
-    hash_of(multihash[0], size)
+    hash_of(*code, size)
 }

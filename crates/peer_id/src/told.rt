@@ -15,12 +15,12 @@ pub fn told_varint(why: VarintError) -> Told
     }
 }
 
-pub fn told_peer_id(peer: PeerId) -> Told
+pub fn told_peer_id(peer: Option<PeerId>) -> Told
     ensures { result ≡ peer_id_told peer }
 {
     match peer {
-        PeerId::Identity => Told::one(0, IDENTITY_MULTIHASH_CODE as u64),
-        PeerId::Sha256 => Told::one(0, SHA256_MULTIHASH_CODE as u64),
-        PeerId::NotPeerId => Told::none(refusals::NOT_PEER_ID),
+        Some(PeerId::Identity) => Told::one(0, IDENTITY_MULTIHASH_CODE as u64),
+        Some(PeerId::Sha256) => Told::one(0, SHA256_MULTIHASH_CODE as u64),
+        None => Told::none(refusals::NOT_PEER_ID),
     }
 }

@@ -5,11 +5,9 @@ ghost use Rattle.play.specs.Ends.{misfits, no_question};
 ghost use Rattle.play.specs.Stores.{store_len};
 
 use answers::{admit_line, advertise_line, ask_line, beat_line, serve_line, set_line, why_line};
-use basis::{Edition, little_at};
-use node::told::{
-    told_admit, told_advertise, told_ask, told_beat, told_explain, told_serve, told_start,
-};
-use node::{Node, Start};
+use basis::{Edition, Fault, little_at, told_fine};
+use node::Node;
+use node::told::{told_admit, told_advertise, told_ask, told_beat, told_explain, told_serve};
 
 // The node of a run, whether settings were accepted, how much of each store is lent, and whether to go on.
 #[derive(Clone, Copy)]
@@ -23,14 +21,12 @@ pub struct Run {
 
 // Before settings are accepted: a node that keeps nothing, lent no store.
 pub fn nothing() -> Run {
-    let s = Node::start(0, 0, 1, 0, 0);
-    let node = s.node;
     Run {
         go: true,
         started: false,
         seen_len: 0,
         cache_len: 0,
-        node,
+        node: Node::start(0, 0, 1, 0, 0).node,
     }
 }
 
@@ -71,7 +67,7 @@ pub fn no_question(content: &[u8]) -> bool
 pub fn within(len: usize, most: usize) -> usize
     ensures { result ≡ min len most }
 {
-    if len < most { len } else { most }
+    len.min(most)
 }
 
 // Prints the first k bytes; the run goes on with this node.
@@ -103,7 +99,7 @@ pub fn places_len(max_messages: usize) -> usize
 
 // Refused settings change nothing.
 fn keep_on(n: u64, run: Run, out: &mut [u8]) -> Run {
-    let k = set_line(n, told_start(Start::BadSetting), out);
+    let k = set_line(n, told_fine(Err(Fault::BadSetting)), out);
     let node = run.node;
     print(out, k, node, run)
 }
@@ -125,17 +121,14 @@ pub fn set_with(
         return keep_on(n, run, out);
     }
     let s = Node::start(ttl, max_seen, history_len, max_messages, flags);
-    let answer = s.answer;
-    match answer {
-        Start::BadSetting => keep_on(n, run, out),
-        Start::Started => {
-            let k = set_line(n, told_start(answer), out);
-            run.started = true;
-            run.seen_len = rows_len(max_seen);
-            run.cache_len = places_len(max_messages);
-            print(out, k, s.node, run)
-        }
+    if s.answer.is_err() {
+        return keep_on(n, run, out);
     }
+    let k = set_line(n, told_fine(s.answer), out);
+    run.started = true;
+    run.seen_len = rows_len(max_seen);
+    run.cache_len = places_len(max_messages);
+    print(out, k, s.node, run)
 }
 
 // Kind 1, which names no flags: unsigned messages are not allowed, and groups are refused.
@@ -168,8 +161,7 @@ pub fn admit(
         verified,
         now,
     );
-    let answer = r.answer;
-    let k = admit_line(n, full, told_admit(answer), out);
+    let k = admit_line(n, full, told_admit(r.answer), out);
     print(out, k, r.node, run)
 }
 
@@ -186,8 +178,7 @@ fn beat(
     let now = little_at(content, 0, 8);
     let node = run.node;
     let r = node.heartbeat(seen_store, cache_store, now);
-    let answer = r.answer;
-    let k = beat_line(n, full, told_beat(answer), out);
+    let k = beat_line(n, full, told_beat(r.answer), out);
     print(out, k, r.node, run)
 }
 
@@ -206,8 +197,7 @@ fn advertise(
     let topic = within(2, content.len());
     let node = run.node;
     let r = node.advertise(seen_store, cache_store, &content[topic..], windows, made);
-    let answer = r.answer;
-    let k = advertise_line(n, full, made, told_advertise(answer), out);
+    let k = advertise_line(n, full, made, told_advertise(r.answer), out);
     print(out, k, r.node, run)
 }
 
@@ -225,8 +215,7 @@ pub fn ask(
 ) -> Run {
     let node = run.node;
     let r = node.ask(seen_store, cache_store, edition, body, made);
-    let answer = r.answer;
-    let k = ask_line(n, full, made, told_ask(answer), out);
+    let k = ask_line(n, full, made, told_ask(r.answer), out);
     print(out, k, r.node, run)
 }
 
@@ -245,8 +234,7 @@ pub fn serve(
 ) -> Run {
     let node = run.node;
     let r = node.serve(seen_store, cache_store, edition, body, unwanted, made);
-    let answer = r.answer;
-    let k = serve_line(n, full, made, told_serve(answer), out);
+    let k = serve_line(n, full, made, told_serve(r.answer), out);
     print(out, k, r.node, run)
 }
 
@@ -272,8 +260,7 @@ pub fn why(
         &content[topic..],
         windows,
     );
-    let answer = r.answer;
-    let k = why_line(n, full, told_explain(answer), out);
+    let k = why_line(n, full, told_explain(r.answer), out);
     print(out, k, r.node, run)
 }
 

@@ -5,12 +5,12 @@
 
 pub mod calls;
 
-ghost use Rattle.std.specs.Prelude.{◌≡◌, ◌≤◌, length};
+ghost use Rattle.std.specs.Prelude.{◌≡◌};
 ghost use Rattle.play.specs.Ends.{no_word, is_bad};
 
 use basis::little_at;
 use calls::{Run, call_node, misfit, nothing, stop, within};
-use text::{Header, next_record};
+use text::{Header, HeaderError, next_record};
 
 // Whether an admit has another word than 0 or 1 on the signature.
 fn no_word(kind: u64, content: &[u8]) -> bool
@@ -72,21 +72,18 @@ pub fn answer(
 // Reads a record and answers it.
 fn turn(
     n: u64,
-    content: &mut [u8],
+    content: &mut [u8; 32768],
     run: Run,
     seen_store: &mut [u8],
     cache_store: &mut [u8],
     made: &mut [u8],
     out: &mut [u8],
-) -> Run
-    requires { 32768 ≤ length content.old }
-{
-    let h = next_record(content, 32768);
-    match h {
-        Header::End => stop(run, b""),
-        Header::Bad => stop(run, b"bad\n"),
-        Header::Long => stop(run, b"long\n"),
-        Header::Record { kind, len } => answer(
+) -> Run {
+    match next_record(content, 32768) {
+        Ok(None) => stop(run, b""),
+        Err(HeaderError::Bad) => stop(run, b"bad\n"),
+        Err(HeaderError::Long) => stop(run, b"long\n"),
+        Ok(Some(Header { kind, len })) => answer(
             n,
             kind,
             &content[..len],
@@ -107,8 +104,7 @@ pub fn play() {
     let mut made = [0u8; 65536];
     let mut out = [0u8; 131350];
     let mut run = nothing();
-    let mut n: u64 = 1;
-    while n < u64::MAX && run.go {
+    for n in 1..u64::MAX {
         run = turn(
             n,
             &mut content,
@@ -118,6 +114,8 @@ pub fn play() {
             &mut made,
             &mut out,
         );
-        n += 1;
+        if !run.go {
+            break;
+        }
     }
 }

@@ -3,10 +3,9 @@
 use Rattle.std.specs.Prelude.{ℕ, Bool, cond, List, [], ◌∷◌}
 use Rattle.basis.specs.declared.Told.{Told}
 use Rattle.basis.specs.Refusals.{malformed}
-use Rattle.basis.specs.Told.{told, done}
+use Rattle.basis.specs.Told.{told, done, fault_told}
 use Rattle.node.specs.declared.Node.{Node}
 use Rattle.node.specs.State.{legal_settings}
-use Rattle.node.specs.Told.{fault_told}
 use Rattle.node.specs.Calls.{lent_of, on_lent}
 
 -- whether a node is started with its settings

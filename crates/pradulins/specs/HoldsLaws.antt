@@ -1,6 +1,6 @@
 -- What the C interface tells of a node is what the gateway has that the node and its stores are; and its settings are told of
 -- every state that a call takes.
-use Rattle.std.specs.Prelude.{ℕ, zero, suc, ◌^◌, ◌<◌, ◌≡◌, refl, Bool, true, false, cond, ◌↔◌, List, [], ◌∷◌, length, get_or, replicate, leb}
+use Rattle.std.specs.Prelude.{Result, Ok, Err, ℕ, zero, suc, ◌^◌, ◌<◌, ◌≡◌, refl, Bool, true, false, cond, ◌↔◌, List, [], ◌∷◌, length, get_or, replicate, leb}
 use Rattle.std.proofs.Common.{ap, ◌∙◌, arith}
 use Rattle.std.proofs.lemmas.List.{length-replicate}
 use Rattle.std.proofs.lemmas.List.Edits.{sets}
@@ -9,7 +9,7 @@ use Rattle.basis.specs.Cases.{both}
 use Rattle.basis.specs.Lists.{zeros-below}
 use Rattle.basis.specs.declared.Told.{Told}
 use Rattle.basis.specs.Refusals.{bad_setting, malformed}
-use Rattle.basis.specs.Told.{told, done}
+use Rattle.basis.specs.Told.{told, done, fault_told, fine_told}
 use Rattle.admission.specs.Flags.{max_flags, known_flags}
 use Rattle.seen.specs.State.{max_ids, fresh as noIds}
 use Rattle.seen.specs.EntriesLaws.{length-entries}
@@ -17,12 +17,10 @@ use Rattle.mcache.specs.State.{legal, fresh, max_history, message_limit}
 use Rattle.mcache.specs.StateLaws.{fine-tests as cache-tests}
 use Rattle.mcache.specs.CachedLaws.{length-cached}
 use Rattle.node.specs.declared.Node.{Node}
-use Rattle.node.specs.declared.Lent.{Lent}
-use Rattle.node.specs.declared.Lent.TheVariants as lent
-use Rattle.node.specs.declared.Start.TheVariants as start
+use Rattle.basis.specs.declared.Fault.TheVariants as fault
+use Rattle.basis.specs.declared.Fault.{Fault}
 use Rattle.node.specs.State.{gateway_in, legal_settings, fresh_node}
 use Rattle.node.specs.StateLaws.{fine-tests}
-use Rattle.node.specs.Told.{start_told, fault_told, lent_told}
 use Rattle.node.specs.Calls.{lent_of, on_lent, start_answer}
 use Rattle.stored.specs.Layout.{node_in, node_bytes, head_of, Fits}
 use Rattle.stored.specs.LayoutLaws.{stored_loaded}
@@ -87,7 +85,7 @@ fresh-fits ttl max_seen history max flags t h =
       flags = omega (arith, leb-true flags max_flags d.1);
     }
 
-taken_start : (b : Bool) → 0 ≡ (start_told (cond b start.Started start.BadSetting)).number → b ≡ true
+taken_start : (b : Bool) → 0 ≡ (fine_told (cond b (Ok tt) (Err fault.BadSetting))).number → b ≡ true
 taken_start true h = refl
 taken_start false h = absurd (omega arith)
 
@@ -108,27 +106,27 @@ settings-started {s} {made} {vs} {ws} {ttl} {max_seen} {history} {max} {flags} t
 -- 42 comes exactly where a start would meet 40, and nothing else is refused
 told-settings : (b : Bool) (x : Told) → x.number ≡ 0
     → ((cond b x (told malformed [])).number ≡ malformed)
-    ↔ ((start_told (cond b start.Started start.BadSetting)).number ≡ bad_setting)
+    ↔ ((fine_told (cond b (Ok tt) (Err fault.BadSetting))).number ≡ bad_setting)
 told-settings true x e = (λ h. absurd (omega arith), λ h. absurd (omega arith))
 told-settings false x e = (λ h. refl, λ h. refl)
 
 pub settings-exactly : (n : Node) → ((settings_told n).number ≡ malformed)
-    ↔ ((start_told (start_answer n.max_seen n.cache.history_len n.cache.max_messages n.cache.flags)).number ≡ bad_setting)
+    ↔ ((fine_told (start_answer n.max_seen n.cache.history_len n.cache.max_messages n.cache.flags)).number ≡ bad_setting)
 unfolding start_answer
 settings-exactly n =
     told-settings (is_settled n)
     (done (n.ttl ∷ n.max_seen ∷ n.cache.history_len ∷ n.cache.max_messages ∷ [])) refl
 
 -- ---- the state: 40, 41 and 42 come exactly where the lent node and its stores meet them
-told-state : (l : Lent) (vs : List ℕ) → (on_lent fault_told l (done vs)).number ≡ (lent_told l).number
-told-state lent.Fine vs = refl
-told-state (lent.Faulty why) vs = refl
+told-state : (l : Result (Unit {0}) Fault) (vs : List ℕ) → (on_lent fault_told l (done vs)).number ≡ (fine_told l).number
+told-state (Ok tt) vs = refl
+told-state (Err why) vs = refl
 
-pub state-number : (n : Node) (ss cs : List ℕ) → (state_told n ss cs).number ≡ (lent_told (lent_of n ss cs)).number
+pub state-number : (n : Node) (ss cs : List ℕ) → (state_told n ss cs).number ≡ (fine_told (lent_of n ss cs)).number
 state-number n ss cs = told-state (lent_of n ss cs) (n.clock ∷ n.seen.count ∷ n.cache.count ∷ [])
 
 -- ---- what is told of a state that a call takes: its settings
-module _ (n : Node) (ss cs : List ℕ) (fine : lent_of n ss cs ≡ lent.Fine) where
+module _ (n : Node) (ss cs : List ℕ) (fine : lent_of n ss cs ≡ Ok tt) where
   taken-legal : is_settled n ≡ true
   unfolding legal_settings legal
   taken-legal =

@@ -1,16 +1,15 @@
 -- A refused call of the C interface, one whose number is not 0, leaves what it was lent to write as it was: the node's
 -- bytes, the stores, the buffer or the table. The values get what the scope's table returns beside the number, and the
 -- refusal's place. An explain, a walk, and what tells a node's settings and state, are lent nothing else to write.
-use Rattle.std.specs.Prelude.{ℕ, ◌≡◌, refl, Bool, true, false, cond, List, length}
+use Rattle.std.specs.Prelude.{Ok, Err, ℕ, ◌≡◌, refl, Bool, true, false, cond, List, length}
 use Rattle.std.proofs.Common.{ap, ◌∙◌}
+use Rattle.basis.specs.Told.{fine_told}
 use Rattle.basis.specs.Bytes.{Bytes}
 use Rattle.basis.specs.Dialect.{edition_of, dialect_of}
 use Rattle.message.specs.Refused.{refused_decode as decode-refused}
 use Rattle.ids.specs.Refused.{refused-id as id-refused}
 use Rattle.encode.specs.Refused.{refused_encode as encode-refused, refused_sign as sign_refused}
 use Rattle.compose.specs.Refused.{refused_write_rpc as write_refused, refused_sign_fields as fields-refused}
-use Rattle.node.specs.declared.Start.TheVariants as start
-use Rattle.node.specs.Told.{start_told}
 use Rattle.node.specs.State.{legal_settings, fresh_node}
 use Rattle.node.specs.Calls.{start_answer}
 use Rattle.node.specs.Laws.{admit-refused, beat-refused, advertise-refused, ask-refused, serve-refused}
@@ -18,10 +17,11 @@ use Rattle.stored.specs.Layout.{node_size, node_in, node_bytes}
 use Rattle.stored.specs.LayoutLaws.{loaded_stored}
 use Rattle.pradulins.specs.Unique.{Starts, Admits, Beats, Advertises, Asks, Serves, Encodes, Signs, Identifies}
 use Rattle.pradulins.specs.Unique.{Decodes, Writes, SignsFields}
+use Rattle.basis.specs.declared.Fault.TheVariants as fault
 
 -- ---- the node
 pub not-started : (legal : Bool) (new old : List ℕ)
-    → ((start_told (cond legal start.Started start.BadSetting)).number ≡ 0 → ⊥) → cond legal new old ≡ old
+    → ((fine_told (cond legal (Ok tt) (Err fault.BadSetting))).number ≡ 0 → ⊥) → cond legal new old ≡ old
 not-started true new old h = absurd (h refl)
 not-started false new old h = refl
 

@@ -6,6 +6,7 @@
 use Rattle.std.specs.Prelude.{ℕ, ◌≡◌, Bool, cond, List, [], length}
 use Rattle.std.proofs.Common.{sym, ◌∙◌}
 use Rattle.std.proofs.lemmas.List.Edits.{sets}
+use Rattle.basis.specs.Told.{fine_told}
 use Rattle.basis.specs.declared.Told.{Told}
 use Rattle.basis.specs.Dialect.{edition_of, dialect_of}
 use Rattle.protobuf.specs.Told.{encoded_told, walk_told}
@@ -19,7 +20,7 @@ use Rattle.encode.specs.Sign.{sign_answer, sign_left}
 use Rattle.compose.specs.Told.{composed_told}
 use Rattle.compose.specs.Compose.{write_answer, write_left, sign_answer as fieldsAnswer, sign_left as fieldsLeft}
 use Rattle.node.specs.State.{legal_settings, fresh_node}
-use Rattle.node.specs.Told.{start_told, admit_told, beat_told, advertise_told, explain_told, ask_told, serve_told}
+use Rattle.node.specs.Told.{admit_told, beat_told, advertise_told, explain_told, ask_told, serve_told}
 use Rattle.node.specs.Calls.{start_answer, planned, admit_answer, admit_node, admit_seen, admit_cache, beat_answer, beat_node}
 use Rattle.node.specs.Calls.{advertise_answer, advertise_left, explain_answer, ask_answer, ask_left, serve_answer, serve_left}
 use Rattle.stored.specs.Layout.{node_in, node_bytes}
@@ -28,7 +29,7 @@ use Rattle.pradulins.specs.Holds.{settings_told, flags_told, state_told}
 
 -- ---- the node: its bytes s, the stores ss and cs, and the values vs, as they are lent; then what is returned and left
 pub record Starts (s : List ℕ) (ttl max_seen history max flags : ℕ) (r : ℕ) (made : List ℕ) : Type 0 where
-  pub number : r ≡ (start_told (start_answer max_seen history max flags)).number
+  pub number : r ≡ (fine_told (start_answer max_seen history max flags)).number
   pub node : made
       ≡ cond (legal_settings max_seen history max flags) (node_bytes (fresh_node ttl max_seen history max flags)) s
 

@@ -19,11 +19,8 @@ use ids::message_id;
 use ids::told::told_message;
 use message::decode;
 use message::told::told_decoded;
-use node::told::{
-    told_admit, told_advertise, told_ask, told_beat, told_explain, told_fault, told_serve,
-    told_start,
-};
-use node::{Lent, Node, Start};
+use node::Node;
+use node::told::{told_admit, told_advertise, told_ask, told_beat, told_explain, told_serve};
 use protobuf::Cursor;
 use protobuf::told::{told_encoded, told_walk};
 use stored::{NODE_SIZE, load, store};
@@ -55,23 +52,16 @@ fn tell_values(t: Told, values: &mut [u64; 8])
 }
 
 // Hands out the place of a refusal.
-fn tell_spot(spot: Spot, values: &mut [u64; 8])
+fn tell_spot(spot: Option<Spot>, values: &mut [u64; 8])
     ensures { values.new ≡ sets values.old 4 (spot_words spot) }
 {
-    match spot {
-        Spot::Nowhere => return,
-        Spot::At {
-            offset,
-            outer,
-            middle,
-            inner,
-        } => {
-            values[4] = offset as u64;
-            values[5] = outer;
-            values[6] = middle;
-            values[7] = inner;
-        }
-    }
+    let Some(spot) = spot else {
+        return;
+    };
+    values[4] = spot.offset as u64;
+    values[5] = spot.outer;
+    values[6] = spot.middle;
+    values[7] = spot.inner;
 }
 
 // What a call tells: its values and its place are handed out, its number is returned.
@@ -80,8 +70,7 @@ fn tell(t: Told, values: &mut [u64; 8]) -> u32
     ensures values_after { values.new ≡ handed t values.old }
 {
     tell_values(t, values);
-    let spot = t.spot;
-    tell_spot(spot, values);
+    tell_spot(t.spot, values);
     t.number as u32
 }
 
@@ -99,14 +88,13 @@ pub fn pradulins_start(
     ensures { Starts node.old ttl max_seen history_len max_messages flags result node.new }
 {
     let s = Node::start(ttl, max_seen, history_len, max_messages, flags as usize);
-    let answer = s.answer;
-    let t = told_start(answer);
-    if t.number == 0 {
-        let n = s.node;
-        store(n, node);
-        return 0;
+    match s.answer {
+        Ok(()) => {
+            store(s.node, node);
+            0
+        }
+        Err(why) => why.told().number as u32,
     }
-    t.number as u32
 }
 
 // Admits the message at an index of a body, with the host's word on its signature, at a reading of the clock. The body is read in the edition of its
@@ -129,10 +117,8 @@ pub fn pradulins_admit(
     let n = load(node);
     let spoken = edition_of(edition as u64);
     let r = n.admit(seen_store, cache_store, spoken, body, index, verified, at);
-    let m = r.node;
-    store(m, node);
-    let answer = r.answer;
-    tell(told_admit(answer), values)
+    store(r.node, node);
+    tell(told_admit(r.answer), values)
 }
 
 // Opens a window at a reading of the clock.
@@ -148,10 +134,8 @@ pub fn pradulins_heartbeat(
 {
     let n = load(node);
     let r = n.heartbeat(seen_store, cache_store, at);
-    let m = r.node;
-    store(m, node);
-    let answer = r.answer;
-    tell(told_beat(answer), values)
+    store(r.node, node);
+    tell(told_beat(r.answer), values)
 }
 
 // Writes what the node tells of a topic, from so many of the newest windows.
@@ -170,8 +154,7 @@ pub fn pradulins_advertise(
 {
     let n = load(node);
     let r = n.advertise(seen_store, cache_store, topic, windows, out);
-    let answer = r.answer;
-    tell(told_advertise(answer), values)
+    tell(told_advertise(r.answer), values)
 }
 
 // Whether an id stands in what the node tells of a topic from so many of the newest windows, and why not: the first value is 0 where it does, 1 where
@@ -190,8 +173,7 @@ pub fn pradulins_explain(
 {
     let n = load(node);
     let r = n.explain(seen_store, cache_store, id, topic, windows);
-    let answer = r.answer;
-    tell(told_explain(answer), values)
+    tell(told_explain(r.answer), values)
 }
 
 // Writes a request for what the IHAVEs of a body name and the node has not seen.
@@ -210,8 +192,7 @@ pub fn pradulins_ask(
     let n = load(node);
     let spoken = edition_of(edition as u64);
     let r = n.ask(seen_store, cache_store, spoken, body, out);
-    let answer = r.answer;
-    tell(told_ask(answer), values)
+    tell(told_ask(r.answer), values)
 }
 
 // Writes the cached messages that the IWANTs of a body name and the IDONTWANTs of a second one do not, as many as there is room for.
@@ -231,8 +212,7 @@ pub fn pradulins_serve(
     let n = load(node);
     let spoken = edition_of(edition as u64);
     let r = n.serve(seen_store, cache_store, spoken, body, unwanted, out);
-    let answer = r.answer;
-    tell(told_serve(answer), values)
+    tell(told_serve(r.answer), values)
 }
 
 // ---- what a node holds
@@ -249,16 +229,15 @@ fn told_settings(n: Node) -> Told
         cache.max_messages,
         cache.flags,
     );
-    let answer = s.answer;
-    match answer {
-        Start::Started => Told::four(
+    match s.answer {
+        Ok(()) => Told::four(
             0,
             n.ttl,
             n.max_seen as u64,
             cache.history_len as u64,
             cache.max_messages as u64,
         ),
-        Start::BadSetting => Told::none(refusals::MALFORMED),
+        Err(_) => Told::none(refusals::MALFORMED),
     }
 }
 
@@ -266,10 +245,9 @@ fn told_settings(n: Node) -> Told
 fn told_state(n: Node, seen_store: &[u8], cache_store: &[u8]) -> Told
     ensures { result ≡ state_told n seen_store.now cache_store.now }
 {
-    let lent = n.lent(seen_store, cache_store);
-    match lent {
-        Lent::Fine => Told::three(0, n.clock, n.seen.count as u64, n.cache.count as u64),
-        Lent::Faulty(why) => told_fault(why),
+    match n.lent(seen_store, cache_store) {
+        Ok(()) => Told::three(0, n.clock, n.seen.count as u64, n.cache.count as u64),
+        Err(why) => why.told(),
     }
 }
 
@@ -360,9 +338,8 @@ pub fn pradulins_walk(dialect: u32, body: &[u8], at: usize, values: &mut [u64; 8
     ensures { Walks dialect body.now at values.old result values.new }
 {
     let spoken = dialect_of(dialect as u64);
-    let mode = spoken.mode;
-    let c = Cursor { at: at };
-    let answer = c.step(mode, body);
+    let cursor = Cursor { at };
+    let answer = cursor.step(spoken.mode, body);
     tell(told_walk(answer), values)
 }
 

@@ -1,6 +1,6 @@
 -- Laws of writing fields: which tags can be written, how long a field is, what a writer answers and leaves, and parts
 -- written one after the other.
-use Rattle.std.specs.Prelude.{ℕ, ◌+◌, ◌*◌, ◌≤◌, ◌<◌, ◌≡◌, List, ◌++◌, length, ltb, eqb}
+use Rattle.std.specs.Prelude.{Ok, Err, ℕ, ◌+◌, ◌*◌, ◌≤◌, ◌<◌, ◌≡◌, List, ◌++◌, length, ltb, eqb}
 use Rattle.std.proofs.Common.{sym, ◌∙◌, arith, add-zero, length-append, ltb-false}
 use Rattle.std.proofs.Math.Path.{ap}
 use Rattle.std.proofs.lemmas.List.Edits.{sets}
@@ -12,8 +12,7 @@ use Rattle.basis.specs.Lists.{sets-append, end_fits, set-fits, answer-fits, answ
 use Rattle.peer_id.specs.Uvarint.{uvarint}
 use Rattle.peer_id.specs.Laws.{uvarint-small, at_most_ten}
 use Rattle.protobuf.specs.declared.Refusal.{Refusal}
-use Rattle.protobuf.specs.declared.Checked.TheVariants.{Fine, Refused as Wrong}
-use Rattle.protobuf.specs.declared.Encoded.TheVariants.{Bytes, Room, Refused}
+use Rattle.protobuf.specs.declared.EncodeError.TheVariants as enc
 use Rattle.protobuf.specs.Encode.{tag, varint_field, bytes_field, tag_refused, of_written, answer_of, left_of, encoded}
 use Rattle.protobuf.specs.Encode.{left}
 
@@ -23,7 +22,7 @@ pub record CanTag (n type : ℕ) : Type 0 where
   pub most : n ≤ 536870911
   pub bits : type ≤ 7
 
-pub fine-tag : (n type : ℕ) → tag_refused n type ≡ Fine → CanTag n type
+pub fine-tag : (n type : ℕ) → tag_refused n type ≡ Ok tt → CanTag n type
 unfolding tag_refused
 fine-tag n type e =
     either (eqb n 0) (λ p. let w = simp p at e in clash (cc))
@@ -49,7 +48,8 @@ pub varint_field-length : (n v : ℕ) → length (varint_field n v) ≡ length (
 unfolding varint_field
 varint_field-length n v = simp length-append
 
-pub bytes_field-length : (n : ℕ) (d : List ℕ) → length (bytes_field n d) ≡ length (tag n 2) + length (uvarint (length d))
+pub bytes_field-length : (n : ℕ) (d : List ℕ)
+    → length (bytes_field n d) ≡ length (tag n 2) + length (uvarint (length d))
     + length d
 unfolding bytes_field
 bytes_field-length n d = simp length-append (omega arith)
@@ -67,27 +67,28 @@ heads_same d =
 
 -- ---- what a writer of xs answers and leaves: with room for them, without it, and where it has no tag
 module _ (n type : ℕ) (xs out : List ℕ) where
-  pub encoded-fits : tag_refused n type ≡ Fine → length xs ≤ length out → encoded n type xs out ≡ Bytes (length xs)
+  pub encoded-fits : tag_refused n type ≡ Ok tt → length xs ≤ length out → encoded n type xs out ≡ Ok (length xs)
   unfolding encoded
   encoded-fits e h = ap (answer_of xs out) e ∙ ap of_written (answer-fits xs out h)
 
-  pub encoded-short : tag_refused n type ≡ Fine → length out < length xs → encoded n type xs out ≡ Room (length xs)
+  pub encoded-short : tag_refused n type ≡ Ok tt → length out < length xs
+      → encoded n type xs out ≡ Err (enc.Room (length xs))
   unfolding encoded
   encoded-short e h = ap (answer_of xs out) e ∙ ap of_written (answer-short xs out h)
 
-  pub encoded-refused : (r : Refusal) → tag_refused n type ≡ Wrong r → encoded n type xs out ≡ Refused r
+  pub encoded-refused : (r : Refusal) → tag_refused n type ≡ Err r → encoded n type xs out ≡ Err (enc.Refused r)
   unfolding encoded
   encoded-refused r e = ap (answer_of xs out) e
 
-  pub left-fits : tag_refused n type ≡ Fine → length xs ≤ length out → left n type xs out ≡ sets out 0 xs
+  pub left-fits : tag_refused n type ≡ Ok tt → length xs ≤ length out → left n type xs out ≡ sets out 0 xs
   unfolding left
   left-fits e h = ap (left_of xs out) e ∙ written-fits xs out h
 
-  pub left-short : tag_refused n type ≡ Fine → length out < length xs → left n type xs out ≡ out
+  pub left-short : tag_refused n type ≡ Ok tt → length out < length xs → left n type xs out ≡ out
   unfolding left
   left-short e h = ap (left_of xs out) e ∙ written-short xs out h
 
-  pub left-refused : (r : Refusal) → tag_refused n type ≡ Wrong r → left n type xs out ≡ out
+  pub left-refused : (r : Refusal) → tag_refused n type ≡ Err r → left n type xs out ≡ out
   unfolding left
   left-refused r e = ap (left_of xs out) e
 

@@ -1,27 +1,17 @@
 -- The walk is the grammar's: it reaches the end of a body exactly where the body is well formed, and then its fields
 -- are the grammar's.
-use Rattle.std.specs.Prelude.{ℕ, ◌+◌, ◌-◌, ◌*◌, ◌/◌, ◌^◌, ◌≤◌, ◌<◌, ◌≡◌, refl, List, [], ◌∷◌, ◌++◌, ◌↔◌, false, length, take, drop, ltb, leb, eqb}
+use Rattle.std.specs.Prelude.{Result, Ok, Err, Option, Some, None, ℕ, ◌+◌, ◌-◌, ◌*◌, ◌/◌, ◌^◌, ◌≤◌, ◌<◌, ◌≡◌, refl, List, [], ◌∷◌, ◌++◌, ◌↔◌, false, length, take, drop, ltb, leb, eqb}
 use Rattle.std.proofs.Common.{sym, ap, ap₂, subst, ◌∙◌, append_assoc, arith, length-append, length-drop, drop_of_length-le, leb-true, eqb-true, le-ltb}
 use Rattle.basis.specs.declared.Mode.{Mode}
 use Rattle.basis.specs.declared.Mode.TheVariants.{Plain, Groups}
 use Rattle.basis.specs.Cases.{either, clash}
 use Rattle.basis.specs.Bytes.{Bytes}
-use Rattle.peer_id.specs.declared.Uvarint.{Uvarint}
-use Rattle.peer_id.specs.declared.Uvarint.TheVariants.{Value as Read, Refused as Unread}
 use Rattle.peer_id.specs.Uvarint.{uvarint, read_uvarint}
 use Rattle.peer_id.specs.Laws.{uvarint-some}
-use Rattle.protobuf.specs.declared.Tag.{Tag}
-use Rattle.protobuf.specs.declared.Tag.TheVariants as tag
-use Rattle.protobuf.specs.declared.Part.{Part}
-use Rattle.protobuf.specs.declared.Part.TheVariants as part
-use Rattle.protobuf.specs.declared.VarintValue.{VarintValue}
-use Rattle.protobuf.specs.declared.VarintValue.TheVariants as value
-use Rattle.protobuf.specs.declared.Skip.{Skip}
-use Rattle.protobuf.specs.declared.Skip.TheVariants as skip
 use Rattle.protobuf.specs.declared.Field.{Field}
-use Rattle.protobuf.specs.declared.Step.{Step}
-use Rattle.protobuf.specs.declared.Step.TheVariants as step
-use Rattle.protobuf.specs.Field.{after, tag_of, read_tag, read_len, read_varint, skip_value, passed, skip_field}
+use Rattle.peer_id.specs.declared.VarintError.{VarintError}
+use Rattle.protobuf.specs.declared.WireError.{WireError}
+use Rattle.protobuf.specs.Field.{located, and_then, tag_of, read_tag, read_len, read_varint, skip_value, passed, skip_field}
 use Rattle.protobuf.specs.Field.{of_value, of_part, of_skip, read_value, of_tag, read_field}
 use Rattle.protobuf.specs.Grammar.{Payload, number, eight, bytes, group, four, Entry, Value, varint, i64}
 use Rattle.protobuf.specs.Grammar.{len-prefix, i32, BodyIn, none, field, a_group, Holds, value as of_value_lem, grouped}
@@ -40,20 +30,20 @@ record Valued (mode : Mode) (s : List ℕ) (n to : ℕ) (f : Field) : Type 0 whe
   is : Holds (levels_of mode) n f.wire_type bytes_of (payload_of s f)
   here : drop to s ≡ bytes_of ++ drop f.next s
 
-value_valued : (mode : Mode) (s : List ℕ) (n type to : ℕ) (f : Field) (r : VarintValue) → Bytes s → type ≡ 0
-    → r ≡ read_varint s to → step.At f ≡ of_value n type to r → Valued mode s n to f
+value_valued : (mode : Mode) (s : List ℕ) (n type to : ℕ) (f : Field) (r : Result (ℕ × ℕ) WireError) → Bytes s
+    → type ≡ 0 → r ≡ read_varint s to → Ok (Some f) ≡ of_value n type to r → Valued mode s n to f
 unfolding payload_of
-value_valued mode s n type to f (value.Value x e) b z q h =
+value_valued mode s n type to f (Ok (x, e)) b z q h =
     let t = varint-spelt s to x e b q in
     let ef : f ≡ record { field = n; wire_type = 0; tag_end = to; value = x; start = e; next = e } = (cc) in
     subst (Valued mode s n to) (sym ef)
     (record { bytes_of = uvarint x; is = of_value_lem (varint t.bound); here = t.here })
-value_valued mode s n type to f (value.Refused why) b z q h = clash (cc)
+value_valued mode s n type to f (Err why) b z q h = clash (cc)
 
-part_valued : (mode : Mode) (s : List ℕ) (n type to : ℕ) (f : Field) (r : Part) → Bytes s → type ≡ 2 → r ≡ read_len s to
-    → step.At f ≡ of_part n type to r → Valued mode s n to f
+part_valued : (mode : Mode) (s : List ℕ) (n type to : ℕ) (f : Field) (r : Result (ℕ × ℕ) WireError) → Bytes s
+    → type ≡ 2 → r ≡ read_len s to → Ok (Some f) ≡ of_part n type to r → Valued mode s n to f
 unfolding payload_of
-part_valued mode s n type to f (part.Bytes a e) b z q h =
+part_valued mode s n type to f (Ok (a, e)) b z q h =
     let t = part-spelt s to a e b q in
     let d = between s a e in
     let g : length d ≡ e - a = between-length s a e t.within in
@@ -65,10 +55,10 @@ part_valued mode s n type to f (part.Bytes a e) b z q h =
       here = t.size.here ∙ ap₂ (λ (k : ℕ) (l : List ℕ). uvarint k ++ l) (sym g) (split s a e t.order)
           ∙ sym (append_assoc (uvarint (length d)) d (drop e s));
     })
-part_valued mode s n type to f (part.Refused why) b z q h = clash (cc)
+part_valued mode s n type to f (Err why) b z q h = clash (cc)
 
 four_valued : (mode : Mode) (s : List ℕ) (n to : ℕ) (f : Field) (e : ℕ) → Fixed s to 4 e
-    → step.At f ≡ of_skip n 5 to (skip.Next e) → Valued mode s n to f
+    → Ok (Some f) ≡ of_skip n 5 to (Ok e) → Valued mode s n to f
 unfolding payload_of
 four_valued mode s n to f e t h =
     let o : to ≤ e = omega (arith, t.ends) in
@@ -78,7 +68,7 @@ four_valued mode s n to f e t h =
     (record { bytes_of = between s to e; is = of_value_lem (i32 g); here = split s to e o })
 
 eight_valued : (mode : Mode) (s : List ℕ) (n to : ℕ) (f : Field) (e : ℕ) → Fixed s to 8 e
-    → step.At f ≡ of_skip n 1 to (skip.Next e) → Valued mode s n to f
+    → Ok (Some f) ≡ of_skip n 1 to (Ok e) → Valued mode s n to f
 unfolding payload_of
 eight_valued mode s n to f e t h =
     let o : to ≤ e = omega (arith, t.ends) in
@@ -97,7 +87,7 @@ closed-bytes s n to e c =
     ∙ take-front s to c.bytes_of (z ++ drop e s) (c.here ∙ append_assoc c.bytes_of z (drop e s))
 
 group_valued : (s : List ℕ) (n to : ℕ) (f : Field) (e : ℕ) → Bytes s → Closed 31 n s to e
-    → step.At f ≡ of_skip n 3 to (skip.Next e) → Valued Groups s n to f
+    → Ok (Some f) ≡ of_skip n 3 to (Ok e) → Valued Groups s n to f
 unfolding payload_of
 group_valued s n to f e b c h =
     let ef : f ≡ record { field = n; wire_type = 3; tag_end = to; value = 0; start = to; next = e } = (cc) in
@@ -109,10 +99,10 @@ group_valued s n to f e b c h =
       here = c.here;
     })
 
-past_valued : (mode : Mode) (s : List ℕ) (n type to : ℕ) (f : Field) (r : Skip) → eqb type 0 ≡ false
-    → eqb type 2 ≡ false → r ≡ skip_value s to type → step.At f ≡ of_skip n type to r → Valued mode s n to f
+past_valued : (mode : Mode) (s : List ℕ) (n type to : ℕ) (f : Field) (r : Result ℕ WireError) → eqb type 0 ≡ false
+    → eqb type 2 ≡ false → r ≡ skip_value s to type → Ok (Some f) ≡ of_skip n type to r → Valued mode s n to f
 unfolding skip_value
-past_valued mode s n type to f (skip.Next e) t0 t2 q h =
+past_valued mode s n type to f (Ok e) t0 t2 q h =
     either (eqb type 5)
     (λ t5. let z : type ≡ 5 = eqb-true type 5 t5 in four_valued mode s n to f e
     (fixed_at s to 4 e (omega arith) (simp (t0, t2, t5) at q)) (rw z at h))
@@ -120,23 +110,23 @@ past_valued mode s n type to f (skip.Next e) t0 t2 q h =
     (λ t1. let z : type ≡ 1 = eqb-true type 1 t1 in eight_valued mode s n to f e
     (fixed_at s to 8 e (omega arith) (simp (t0, t2, t5, t1) at q)) (rw z at h))
     (λ t1. clash (let k = simp (t0, t2, t5, t1) at q in cc)))
-past_valued mode s n type to f (skip.Refused why) t0 t2 q h = clash (cc)
+past_valued mode s n type to f (Err why) t0 t2 q h = clash (cc)
 
-skip_valued : (mode : Mode) (s : List ℕ) (n type to : ℕ) (f : Field) (r : Skip) → Bytes s → eqb type 0 ≡ false
-    → eqb type 2 ≡ false → r ≡ skip_field mode max_groups s to n type → step.At f ≡ of_skip n type to r
-    → Valued mode s n to f
+skip_valued : (mode : Mode) (s : List ℕ) (n type to : ℕ) (f : Field) (r : Result ℕ WireError) → Bytes s
+    → eqb type 0 ≡ false → eqb type 2 ≡ false → r ≡ skip_field mode max_groups s to n type
+    → Ok (Some f) ≡ of_skip n type to r → Valued mode s n to f
 unfolding skip_field passed
 skip_valued Plain s n type to f r b t0 t2 q h = past_valued Plain s n type to f r t0 t2 q h
-skip_valued Groups s n type to f (skip.Refused why) b t0 t2 q h = clash (cc)
-skip_valued Groups s n type to f (skip.Next e) b t0 t2 q h =
+skip_valued Groups s n type to f (Err why) b t0 t2 q h = clash (cc)
+skip_valued Groups s n type to f (Ok e) b t0 t2 q h =
     either (eqb type 3)
     (λ t3. let z : type ≡ 3 = eqb-true type 3 t3 in
     group_valued s n to f e b (group-closed s b 31 to n e (simp t3 at q)) (rw z at h))
     (λ t3. either (eqb type 4) (λ t4. clash (let k = simp (t3, t4) at q in cc))
-    (λ t4. past_valued Groups s n type to f (skip.Next e) t0 t2 (simp (t3, t4) at q) h))
+    (λ t4. past_valued Groups s n type to f (Ok e) t0 t2 (simp (t3, t4) at q) h))
 
-read_valued : (mode : Mode) (s : List ℕ) (n type to : ℕ) (f : Field) → Bytes s → step.At f ≡ read_value mode s n type to
-    → Valued mode s n to f
+read_valued : (mode : Mode) (s : List ℕ) (n type to : ℕ) (f : Field) → Bytes s
+    → Ok (Some f) ≡ read_value mode s n type to → Valued mode s n to f
 unfolding read_value
 read_valued mode s n type to f b h =
     either (eqb type 0)
@@ -151,19 +141,22 @@ record Named (n type to : ℕ) (f : Field) : Type 0 where
   type_of_lem : f.wire_type ≡ type
   end_of : f.tag_end ≡ to
 
-value-named : (n type to : ℕ) (f : Field) (r : VarintValue) → step.At f ≡ of_value n type to r → Named n type to f
-value-named n type to f (value.Value x e) h = record { number_of = cc; type_of_lem = cc; end_of = cc }
-value-named n type to f (value.Refused why) h = clash (cc)
+value-named : (n type to : ℕ) (f : Field) (r : Result (ℕ × ℕ) WireError) → Ok (Some f) ≡ of_value n type to r
+    → Named n type to f
+value-named n type to f (Ok (x, e)) h = record { number_of = cc; type_of_lem = cc; end_of = cc }
+value-named n type to f (Err why) h = clash (cc)
 
-part-named : (n type to : ℕ) (f : Field) (r : Part) → step.At f ≡ of_part n type to r → Named n type to f
-part-named n type to f (part.Bytes a e) h = record { number_of = cc; type_of_lem = cc; end_of = cc }
-part-named n type to f (part.Refused why) h = clash (cc)
+part-named : (n type to : ℕ) (f : Field) (r : Result (ℕ × ℕ) WireError) → Ok (Some f) ≡ of_part n type to r
+    → Named n type to f
+part-named n type to f (Ok (a, e)) h = record { number_of = cc; type_of_lem = cc; end_of = cc }
+part-named n type to f (Err why) h = clash (cc)
 
-skip_named : (n type to : ℕ) (f : Field) (r : Skip) → step.At f ≡ of_skip n type to r → Named n type to f
-skip_named n type to f (skip.Next e) h = record { number_of = cc; type_of_lem = cc; end_of = cc }
-skip_named n type to f (skip.Refused why) h = clash (cc)
+skip_named : (n type to : ℕ) (f : Field) (r : Result ℕ WireError) → Ok (Some f) ≡ of_skip n type to r
+    → Named n type to f
+skip_named n type to f (Ok e) h = record { number_of = cc; type_of_lem = cc; end_of = cc }
+skip_named n type to f (Err why) h = clash (cc)
 
-read_named : (mode : Mode) (s : List ℕ) (n type to : ℕ) (f : Field) → step.At f ≡ read_value mode s n type to
+read_named : (mode : Mode) (s : List ℕ) (n type to : ℕ) (f : Field) → Ok (Some f) ≡ read_value mode s n type to
     → Named n type to f
 unfolding read_value
 read_named mode s n type to f h =
@@ -180,12 +173,11 @@ pub record Stood (mode : Mode) (s : List ℕ) (at : ℕ) (f : Field) : Type 0 wh
   pub tagged : f.tag_end ≡ at + length (uvarint (f.field * 8 + f.wire_type))
   pub here : drop at s ≡ uvarint (f.field * 8 + f.wire_type) ++ (bytes_of ++ drop f.next s)
 
-tag-stood : (mode : Mode) (s : List ℕ) (at : ℕ) (f : Field) (r : Tag) → Bytes s → r ≡ read_tag s at
-    → step.At f ≡ of_tag mode s r
-    → Stood mode s at f
-tag-stood mode s at f tag.End b q h = clash (cc)
-tag-stood mode s at f (tag.Refused why) b q h = clash (cc)
-tag-stood mode s at f (tag.Field n type to) b q h =
+tag-stood : (mode : Mode) (s : List ℕ) (at : ℕ) (f : Field) (r : Result (Option (ℕ × ℕ × ℕ)) WireError) → Bytes s
+    → r ≡ read_tag s at → Ok (Some f) ≡ of_tag mode s r → Stood mode s at f
+tag-stood mode s at f (Ok None) b q h = clash (cc)
+tag-stood mode s at f (Err why) b q h = clash (cc)
+tag-stood mode s at f (Ok (Some (n, type, to))) b q h =
     let t = tag-spelt s at n type to b q in
     let v = read_valued mode s n type to f b h in
     let m = read_named mode s n type to f h in
@@ -201,13 +193,13 @@ tag-stood mode s at f (tag.Field n type to) b q h =
       here = t.spells.here ∙ ap₂ (λ (x y : List ℕ). x ++ y) (sym tn) v.here;
     }
 
-pub field-stood : (mode : Mode) (s : List ℕ) (at : ℕ) (f : Field) → Bytes s → step.At f ≡ read_field mode s at
+pub field-stood : (mode : Mode) (s : List ℕ) (at : ℕ) (f : Field) → Bytes s → Ok (Some f) ≡ read_field mode s at
     → Stood mode s at f
 unfolding read_field
 field-stood mode s at f b h = tag-stood mode s at f (read_tag s at) b refl h
 
 field-sound : (mode : Mode) (s : List ℕ) (at : ℕ) (f : Field) (es : List Entry) → Bytes s
-    → step.At f ≡ read_field mode s at
+    → Ok (Some f) ≡ read_field mode s at
     → Body mode (drop f.next s) es → Body mode (drop at s) (entry_of s f ∷ es)
 unfolding entry_of
 field-sound mode s at f es b h w =
@@ -216,57 +208,57 @@ field-sound mode s at f es b h w =
     (in_front t.least t.most t.is w)
 
 -- the end is found only there
-past-varint : (at : ℕ) (r : Uvarint) → tag.End ≡ after at tag.Refused (tag_of at) r → ⊥
-past-varint at (Read x n) h =
+past-varint : (at : ℕ) (r : Result (ℕ × ℕ) VarintError) → Ok None ≡ and_then (tag_of at) (located at r) → ⊥
+past-varint at (Ok (x, n)) h =
     either (eqb (x / 8) 0) (λ t. clash (let k = simp t at h in cc))
     (λ t. either (ltb 536870911 (x / 8)) (λ w. clash (let k = simp (t, w) at h in cc))
     (λ w. clash (let k = simp (t, w) at h in cc)))
-past-varint at (Unread why) h = clash (cc)
+past-varint at (Err why) h = clash (cc)
 
-value-going : (mode : Mode) (s : List ℕ) (n type to : ℕ) → step.End ≡ read_value mode s n type to → ⊥
+value-going : (mode : Mode) (s : List ℕ) (n type to : ℕ) → Ok None ≡ read_value mode s n type to → ⊥
 unfolding read_value
 value-going mode s n type to h =
     either (eqb type 0) (λ t0. of_value_lem (read_varint s to) (simp t0 at h))
     (λ t0. either (eqb type 2) (λ t2. of_part_lem (read_len s to) (simp (t0, t2) at h))
     (λ t2. of_skip_lem (skip_field mode max_groups s to n type) (simp (t0, t2) at h)))
   where
-    of_value_lem : (r : VarintValue) → step.End ≡ of_value n type to r → ⊥
-    of_value_lem (value.Value x e) h = clash (cc)
-    of_value_lem (value.Refused why) h = clash (cc)
+    of_value_lem : (r : Result (ℕ × ℕ) WireError) → Ok None ≡ of_value n type to r → ⊥
+    of_value_lem (Ok (x, e)) h = clash (cc)
+    of_value_lem (Err why) h = clash (cc)
 
-    of_part_lem : (r : Part) → step.End ≡ of_part n type to r → ⊥
-    of_part_lem (part.Bytes a e) h = clash (cc)
-    of_part_lem (part.Refused why) h = clash (cc)
+    of_part_lem : (r : Result (ℕ × ℕ) WireError) → Ok None ≡ of_part n type to r → ⊥
+    of_part_lem (Ok (a, e)) h = clash (cc)
+    of_part_lem (Err why) h = clash (cc)
 
-    of_skip_lem : (r : Skip) → step.End ≡ of_skip n type to r → ⊥
-    of_skip_lem (skip.Next e) h = clash (cc)
-    of_skip_lem (skip.Refused why) h = clash (cc)
+    of_skip_lem : (r : Result ℕ WireError) → Ok None ≡ of_skip n type to r → ⊥
+    of_skip_lem (Ok e) h = clash (cc)
+    of_skip_lem (Err why) h = clash (cc)
 
-tag-ended : (mode : Mode) (s : List ℕ) (at : ℕ) (r : Tag) → r ≡ read_tag s at → step.End ≡ of_tag mode s r → length s ≤ at
-unfolding read_tag
-tag-ended mode s at tag.End q h =
+tag-ended : (mode : Mode) (s : List ℕ) (at : ℕ) (r : Result (Option (ℕ × ℕ × ℕ)) WireError) → r ≡ read_tag s at
+    → Ok None ≡ of_tag mode s r → length s ≤ at
+unfolding read_tag read_varint
+tag-ended mode s at (Ok None) q h =
     either (leb (length s) at) (λ t. leb-true _ _ t)
     (λ t. absurd (past-varint at (read_uvarint (drop at s)) (simp t at q)))
-tag-ended mode s at (tag.Refused why) q h = clash (cc)
-tag-ended mode s at (tag.Field n type to) q h = absurd (value-going mode s n type to h)
+tag-ended mode s at (Err why) q h = clash (cc)
+tag-ended mode s at (Ok (Some (n, type, to))) q h = absurd (value-going mode s n type to h)
 
-pub field-ended : (mode : Mode) (s : List ℕ) (at : ℕ) → step.End ≡ read_field mode s at → length s ≤ at
+pub field-ended : (mode : Mode) (s : List ℕ) (at : ℕ) → Ok None ≡ read_field mode s at → length s ≤ at
 unfolding read_field
 field-ended mode s at h = tag-ended mode s at (read_tag s at) refl h
 
-step-sound : (mode : Mode) (s : List ℕ) (at : ℕ) (fs : List Field) (r : Step) → Bytes s → r ≡ read_field mode s at
-    → on_step (walk_at mode s) r ≡ whole fs → ((f : Field) (gs : List Field) → walk_at mode s f.next ≡ whole gs
-    → (fs ≡ f ∷ gs)
-    → Body mode (drop f.next s) (entries_of s gs)) → Body mode (drop at s) (entries_of s fs)
-step-sound mode s at [] step.End b q h ih = rw (drop_of_length-le s (field-ended mode s at q)) none
-step-sound mode s at (f ∷ fs) step.End b q h ih = clash (cc)
-step-sound mode s at fs (step.Refused why) b q h ih = never fs h
+step-sound : (mode : Mode) (s : List ℕ) (at : ℕ) (fs : List Field) (r : Result (Option Field) WireError) → Bytes s
+    → r ≡ read_field mode s at → on_step (walk_at mode s) r ≡ whole fs
+    → ((f : Field) (gs : List Field) → walk_at mode s f.next ≡ whole gs → (fs ≡ f ∷ gs) → Body mode (drop f.next s) (entries_of s gs)) → Body mode (drop at s) (entries_of s fs)
+step-sound mode s at [] (Ok None) b q h ih = rw (drop_of_length-le s (field-ended mode s at q)) none
+step-sound mode s at (f ∷ fs) (Ok None) b q h ih = clash (cc)
+step-sound mode s at fs (Err why) b q h ih = never fs h
   where
     never : (gs : List Field) → refused why ≡ whole gs → Body mode (drop at s) (entries_of s fs)
     never [] e = clash (cc)
     never (g ∷ gs) e = clash (cc)
-step-sound mode s at [] (step.At f) b q h ih = clash (cc)
-step-sound mode s at (g ∷ gs) (step.At f) b q h ih =
+step-sound mode s at [] (Ok (Some f)) b q h ih = clash (cc)
+step-sound mode s at (g ∷ gs) (Ok (Some f)) b q h ih =
     let eg : g ≡ f = cc in
     let ew : walk_at mode s f.next ≡ whole gs = cc in
     rw eg (field-sound mode s at f (entries_of s gs) b q (ih f gs ew (ap (λ (x : Field). x ∷ gs) eg)))
@@ -284,7 +276,7 @@ sound mode s (g ∷ hs) at b h =
 -- a field of the grammar is read at its place, and what it holds is the grammar's
 pub record Found (mode : Mode) (s : List ℕ) (at n type : ℕ) (p : Payload) (rest : List ℕ) : Type 0 where
   pub f : Field
-  pub read : step.At f ≡ read_field mode s at
+  pub read : Ok (Some f) ≡ read_field mode s at
   pub tagged : f.tag_end ≡ at + length (uvarint (n * 8 + type))
   pub entry : entry_of s f ≡ record { field = n; payload = p }
   pub left : drop f.next s ≡ rest
@@ -292,7 +284,7 @@ pub record Found (mode : Mode) (s : List ℕ) (at n type : ℕ) (p : Payload) (r
 -- the same of a value, whose tag ends at `to`
 record Held (mode : Mode) (s : List ℕ) (n type to : ℕ) (p : Payload) (rest : List ℕ) : Type 0 where
   f : Field
-  read : step.At f ≡ read_value mode s n type to
+  read : Ok (Some f) ≡ read_value mode s n type to
   tagged : f.tag_end ≡ to
   entry : entry_of s f ≡ record { field = n; payload = p }
   left : drop f.next s ≡ rest
@@ -313,7 +305,7 @@ varint-held mode s n to v rest b h =
 bytes-held : (mode : Mode) (s : List ℕ) (n to : ℕ) (d rest : List ℕ) → length d < 2 ^ 64
     → drop to s ≡ (uvarint (length d) ++ d)
     ++ rest → Held mode s n 2 to (bytes d) rest
-unfolding read_value read_len entry_of payload_of
+unfolding read_value read_len entry_of payload_of read_varint
 bytes-held mode s n to d rest b h =
     let a = to + length (uvarint (length d)) in
     let e = a + length d in
@@ -335,7 +327,7 @@ bytes-held mode s n to d rest b h =
 -- a value that is passed over
 past-held : (mode : Mode) (s : List ℕ) (n type to k : ℕ) (d rest : List ℕ) (p : List ℕ → Payload) → 0 < k
     → length d ≡ k → drop to s ≡ d ++ rest
-    → step.At (record { field = n; wire_type = type; tag_end = to; value = 0; start = to; next = to + k })
+    → Ok (Some (record { field = n; wire_type = type; tag_end = to; value = 0; start = to; next = to + k }))
     ≡ read_value mode s n type to
     → entry_of s (record { field = n; wire_type = type; tag_end = to; value = 0; start = to; next = to + k })
     ≡ record { field = n; payload = p (between s to (to + k)) }
@@ -352,8 +344,8 @@ past-held mode s n type to k d rest p z g h r e =
 
 -- a fixed number of bytes
 fixed_skips : (mode : Mode) (s : List ℕ) (n to : ℕ) (d rest : List ℕ) → drop to s ≡ d ++ rest
-    → (length d ≡ 4 → skip_field mode max_groups s to n 5 ≡ skip.Next (to + 4))
-    × (length d ≡ 8 → skip_field mode max_groups s to n 1 ≡ skip.Next (to + 8))
+    → (length d ≡ 4 → skip_field mode max_groups s to n 5 ≡ Ok (to + 4))
+    × (length d ≡ 8 → skip_field mode max_groups s to n 1 ≡ Ok (to + 8))
 unfolding skip_value
 fixed_skips mode s n to d rest h = (
   λ g. skip_value_lem mode max_groups s to n 5 refl refl ∙ fixed_reads s to d rest 4 (omega arith) g h,
@@ -441,7 +433,7 @@ completed : {es : List Entry} (mode : Mode) (s : List ℕ) (at n type : ℕ) (re
 completed mode s at n type rest p t k =
     record {
       fields = t.f ∷ k.fields;
-      walked = walk_on mode s at (step.At t.f) t.read ∙ ap (λ (y : Fields). t.f then y) k.walked;
+      walked = walk_on mode s at (Ok (Some t.f)) t.read ∙ ap (λ (y : Fields). t.f then y) k.walked;
       entries = ap₂ (λ (x : Entry) (y : List Entry). x ∷ y) t.entry k.entries;
     }
 

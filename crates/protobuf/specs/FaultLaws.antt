@@ -1,5 +1,5 @@
 -- A field is refused exactly where it has a fault, by the fault's reason and at its place.
-use Rattle.std.specs.Prelude.{ℕ, zero, suc, ◌+◌, ◌-◌, ◌*◌, ◌/◌, ◌%◌, ◌^◌, ◌≤◌, ◌<◌, ◌≡◌, ◌≢◌, false, length, drop, ltb, leb, eqb}
+use Rattle.std.specs.Prelude.{Result, Ok, Err, Option, Some, None, ℕ, zero, suc, ◌+◌, ◌-◌, ◌*◌, ◌/◌, ◌%◌, ◌^◌, ◌≤◌, ◌<◌, ◌≡◌, ◌≢◌, false, length, drop, ltb, leb, eqb}
 use Rattle.std.proofs.Math.Path.{refl, subst}
 use Rattle.std.proofs.Common.{sym, ap, ◌∙◌, arith, length-append, length-drop, drop_of_length-le, leb-false, ltb-true, eqb-true, lt-ltb, ne_eqb}
 use mathlib.Core.List.{List, [], ◌∷◌, ◌++◌, append_assoc, append-nil}
@@ -10,8 +10,6 @@ use Rattle.basis.specs.Cases.{either, clash}
 use Rattle.basis.specs.Bytes.{Bytes}
 use Rattle.basis.specs.Spot.{at as spot}
 use Rattle.peer_id.specs.declared.VarintError.{VarintError}
-use Rattle.peer_id.specs.declared.Uvarint.{Uvarint}
-use Rattle.peer_id.specs.declared.Uvarint.TheVariants.{Value as Read, Refused as Unread}
 use Rattle.peer_id.specs.Uvarint.{uvarint, read_uvarint}
 use Rattle.peer_id.specs.Laws.{uvarint-some}
 use Rattle.peer_id.specs.Bad.{Bad}
@@ -20,20 +18,12 @@ use Rattle.protobuf.specs.declared.WireError.{WireError}
 use Rattle.protobuf.specs.declared.WireError.TheVariants.{Varint, FieldOverflow, UnsupportedWireType}
 use Rattle.protobuf.specs.declared.WireError.TheVariants.{InvalidFieldNumber, EndGroup, GroupDepth, GroupOpen}
 use Rattle.protobuf.specs.declared.Refusal.{Refusal}
-use Rattle.protobuf.specs.declared.Tag.{Tag}
-use Rattle.protobuf.specs.declared.Tag.TheVariants as tagged
-use Rattle.protobuf.specs.declared.Part.TheVariants as part
-use Rattle.protobuf.specs.declared.VarintValue.TheVariants as value
-use Rattle.protobuf.specs.declared.Skip.{Skip}
-use Rattle.protobuf.specs.declared.Skip.TheVariants as skip
-use Rattle.protobuf.specs.declared.Step.{Step}
-use Rattle.protobuf.specs.declared.Step.TheVariants as step
-use Rattle.protobuf.specs.declared.Walk.TheVariants as walk
+use Rattle.protobuf.specs.declared.Field.{Field}
 use Rattle.protobuf.specs.Encode.{tag}
 use Rattle.protobuf.specs.Refusal.{spot_of, placed_as, here}
 use Rattle.protobuf.specs.Grammar.{Entry, BodyIn, none as no_fields, max_groups, levels_of}
-use Rattle.protobuf.specs.Field.{after, tag_of, read_tag, part_of, read_len, read_varint, skip_fixed, past_value}
-use Rattle.protobuf.specs.Field.{past_part, skip_value, opened, passed, and_on, in_group, skip_group, skip_field}
+use Rattle.protobuf.specs.Field.{located, and_then, tag_of, read_tag, part_of, read_len, read_varint, skip_fixed, past_value}
+use Rattle.protobuf.specs.Field.{skip_value, opened, passed, and_on, in_group, skip_group, skip_field}
 use Rattle.protobuf.specs.Field.{read_value, of_tag, read_field, walk_skip}
 use Rattle.protobuf.specs.Laws.{tag_moves, tag-end, passed_moves, group-step, group_moves, skip_value_lem}
 use Rattle.protobuf.specs.WalkLaws.{outline, read-outline}
@@ -49,11 +39,11 @@ use Rattle.protobuf.specs.Faults.{of_field, stray}
 pub record Faulty (mode : Mode) (s : List ℕ) (at : ℕ) (why : WireError) : Type 0 where
   pub place : ℕ
   pub fault : Fault mode at (drop at s) place why
-  pub spot-at : spot_of why ≡ placed_as (spot_of why) (spot place)
+  pub spot-at : spot_of why ≡ placed_as (spot_of why) (Some (spot place))
 
 -- the place of a fault is its refusal's
 fault-spot : {mode : Mode} {l base place : ℕ} {s : List ℕ} {why : WireError} → FaultIn mode l base s place why
-    → spot_of why ≡ placed_as (spot_of why) (spot place)
+    → spot_of why ≡ placed_as (spot_of why) (Some (spot place))
 fault-spot (bad-tag s z d) = refl
 fault-spot (bad-number s z b l) = refl
 fault-spot (bad_type s n u) = refl
@@ -67,26 +57,26 @@ fault-spot (crossed v s n g k z) = refl
 fault-spot (within v s n g f) = fault-spot f
 
 -- a value is refused where it is not passed, by the same reason
-refused-back : (n type at : ℕ) (why : WireError) (r : Skip) → walk_skip n type at r ≡ walk.Refused (here why)
-    → skip.Refused why ≡ r
-refused-back n type at why (skip.Next e) h = clash (cc)
-refused-back n type at why (skip.Refused w) h =
-    let e : here why ≡ here w = cc in ap (λ (r : Refusal). skip.Refused r.why) e
+refused-back : (n type at : ℕ) (why : WireError) (r : Result ℕ WireError) → walk_skip n type at r ≡ Err (here why)
+    → Err why ≡ r
+refused-back n type at why (Ok e) h = clash (cc)
+refused-back n type at why (Err w) h =
+    let e : here why ≡ here w = cc in ap (λ (r : Refusal). Err r.why) e
 
-refused_on : (r : Step) (why : WireError) → outline r ≡ walk.Refused (here why) → r ≡ step.Refused why
-refused_on step.End why h = clash (cc)
-refused_on (step.At f) why h = clash (cc)
-refused_on (step.Refused w) why h =
-    let e : here w ≡ here why = cc in ap (λ (r : Refusal). step.Refused r.why) e
+refused_on : (r : Result (Option Field) WireError) (why : WireError) → outline r ≡ Err (here why) → r ≡ Err why
+refused_on (Ok None) why h = clash (cc)
+refused_on (Ok (Some f)) why h = clash (cc)
+refused_on (Err w) why h =
+    let e : here w ≡ here why = cc in ap (λ (r : Refusal). Err r.why) e
 
 value_skipped : (mode : Mode) (s : List ℕ) (n type at : ℕ) (why : WireError)
-    → step.Refused why ≡ read_value mode s n type at → skip.Refused why ≡ skip_field mode max_groups s at n type
+    → Err why ≡ read_value mode s n type at → Err why ≡ skip_field mode max_groups s at n type
 value_skipped mode s n type at why h =
     refused-back n type at why (skip_field mode max_groups s at n type)
     (read-outline mode s n type at ∙ ap outline (sym h))
 
 skipped_value : (mode : Mode) (s : List ℕ) (n type at : ℕ) (why : WireError)
-    → skip_field mode max_groups s at n type ≡ skip.Refused why → read_value mode s n type at ≡ step.Refused why
+    → skip_field mode max_groups s at n type ≡ Err why → read_value mode s n type at ≡ Err why
 skipped_value mode s n type at why h =
     refused_on (read_value mode s n type at) why (sym (read-outline mode s n type at) ∙ ap (walk_skip n type at) h)
 
@@ -96,11 +86,11 @@ record FaultyIn (mode : Mode) (l : ℕ) (s : List ℕ) (at : ℕ) (why : WireErr
   place : ℕ
   fault : FaultIn mode l at (drop at s) place why
 
-unread : (s : List ℕ) (at : ℕ) (e : VarintError) → Unread e ≡ read_uvarint (drop at s) → Bad (drop at s) e
+unread : (s : List ℕ) (at : ℕ) (e : VarintError) → Err e ≡ read_uvarint (drop at s) → Bad (drop at s) e
 unread s at e h = (bad-exactly (drop at s) e).0 (sym h)
 
 -- its tag
-number-fault : (mode : Mode) (l : ℕ) (s : List ℕ) (at x m : ℕ) → Bytes s → Read x m ≡ read_uvarint (drop at s)
+number-fault : (mode : Mode) (l : ℕ) (s : List ℕ) (at x m : ℕ) → Bytes s → Ok (x, m) ≡ read_uvarint (drop at s)
     → NoField (x / 8) → FaultyIn mode l s at (InvalidFieldNumber (x / 8) at)
 unfolding tag
 number-fault mode l s at x m b q z =
@@ -114,13 +104,14 @@ number-fault mode l s at x m b q z =
           (bad-number {type = x % 8} (drop (at + m) s) z (omega arith) (omega (arith, t.bound)));
     }
 
-tag-after : (mode : Mode) (l : ℕ) (s : List ℕ) (at : ℕ) (why : WireError) (r : Uvarint) → Bytes s → at < length s
-    → r ≡ read_uvarint (drop at s) → tagged.Refused why ≡ after at tagged.Refused (tag_of at) r → FaultyIn mode l s at why
-tag-after mode l s at why (Unread e) b i q h =
+tag-after : (mode : Mode) (l : ℕ) (s : List ℕ) (at : ℕ) (why : WireError) (r : Result (ℕ × ℕ) VarintError) → Bytes s
+    → at < length s → r ≡ read_uvarint (drop at s) → Err why ≡ and_then (tag_of at) (located at r)
+    → FaultyIn mode l s at why
+tag-after mode l s at why (Err e) b i q h =
     let w : Varint e at ≡ why = cc in
     subst (FaultyIn mode l s at) w
     (record { place = at; fault = bad-tag (drop at s) (omega (arith, length-drop at s)) (unread s at e q) })
-tag-after mode l s at why (Read x m) b i q h =
+tag-after mode l s at why (Ok (x, m)) b i q h =
     either (eqb (x / 8) 0)
     (λ t. let k = simp t at h in
     let w : InvalidFieldNumber (x / 8) at ≡ why = cc in
@@ -132,9 +123,9 @@ tag-after mode l s at why (Read x m) b i q h =
     subst (FaultyIn mode l s at) w (number-fault mode l s at x m b q (large (ltb-true 536870911 (x / 8) u))))
     (λ u. clash (let k = simp (t, u) at h in cc)))
 
-tag-fault : (mode : Mode) (l : ℕ) (s : List ℕ) (at : ℕ) (why : WireError) → Bytes s → tagged.Refused why ≡ read_tag s at
+tag-fault : (mode : Mode) (l : ℕ) (s : List ℕ) (at : ℕ) (why : WireError) → Bytes s → Err why ≡ read_tag s at
     → FaultyIn mode l s at why
-unfolding read_tag
+unfolding read_tag read_varint
 tag-fault mode l s at why b h =
     either (leb (length s) at) (λ t. clash (let k = simp t at h in cc))
     (λ t. tag-after mode l s at why (read_uvarint (drop at s)) b (leb-false (length s) at t) refl (simp t at h))
@@ -163,25 +154,25 @@ module _ (mode : Mode) (l : ℕ) (s : List ℕ) (at n type to : ℕ) (b : Bytes 
             (subst (λ (k : ℕ). FaultIn mode l at (tag n type ++ drop to s) k (why k)) (sym tag-ends) f);
       }
 
-varint-fault : (mode : Mode) (l : ℕ) (s : List ℕ) (at n to : ℕ) (why : WireError) (r : Uvarint) → Bytes s
-    → Tagged s at n 0 to → r ≡ read_uvarint (drop to s)
-    → skip.Refused why ≡ past_value (after to value.Refused value.Value r) → FaultyIn mode l s at why
-varint-fault mode l s at n to why (Read x m) b t q h = clash (cc)
-varint-fault mode l s at n to why (Unread e) b t q h =
+varint-fault : (mode : Mode) (l : ℕ) (s : List ℕ) (at n to : ℕ) (why : WireError) (r : Result (ℕ × ℕ) VarintError)
+    → Bytes s → Tagged s at n 0 to → r ≡ read_uvarint (drop to s) → Err why ≡ past_value (located to r)
+    → FaultyIn mode l s at why
+varint-fault mode l s at n to why (Ok (x, m)) b t q h = clash (cc)
+varint-fault mode l s at n to why (Err e) b t q h =
     let w : Varint e to ≡ why = cc in
     subst (FaultyIn mode l s at) w
     (after_tag mode l s at n 0 to b t (Varint e)
     (bad-value (drop to s) (numbered mode l s at n 0 to b t) (unread s to e q)))
 
-part-fault : (mode : Mode) (l : ℕ) (s : List ℕ) (at n to : ℕ) (why : WireError) (r : Uvarint) → Bytes s
-    → Tagged s at n 2 to → r ≡ read_uvarint (drop to s)
-    → skip.Refused why ≡ past_part (after to part.Refused (part_of (length s)) r) → FaultyIn mode l s at why
-part-fault mode l s at n to why (Unread e) b t q h =
+part-fault : (mode : Mode) (l : ℕ) (s : List ℕ) (at n to : ℕ) (why : WireError) (r : Result (ℕ × ℕ) VarintError)
+    → Bytes s → Tagged s at n 2 to → r ≡ read_uvarint (drop to s)
+    → Err why ≡ past_value (and_then (part_of (length s)) (located to r)) → FaultyIn mode l s at why
+part-fault mode l s at n to why (Err e) b t q h =
     let w : Varint e to ≡ why = cc in
     subst (FaultyIn mode l s at) w
     (after_tag mode l s at n 2 to b t (Varint e)
     (bad-length (drop to s) (numbered mode l s at n 2 to b t) (unread s to e q)))
-part-fault mode l s at n to why (Read x m) b t q h =
+part-fault mode l s at n to why (Ok (x, m)) b t q h =
     either (ltb (length s - (to + m)) x)
     (λ u. let k = simp u at h in
     let w : FieldOverflow (to + m) x (length s - (to + m)) ≡ why = cc in
@@ -207,7 +198,7 @@ part-fault mode l s at n to why (Read x m) b t q h =
     (λ u. clash (let k = simp u at h in cc))
 
 fixed_fault : (mode : Mode) (l : ℕ) (s : List ℕ) (at n type to width : ℕ) (why : WireError) → Bytes s
-    → Tagged s at n type to → FixedWidth type width → skip.Refused why ≡ skip_fixed (length s) to width
+    → Tagged s at n type to → FixedWidth type width → Err why ≡ skip_fixed (length s) to width
     → FaultyIn mode l s at why
 unfolding skip_fixed
 fixed_fault mode l s at n type to width why b t f h =
@@ -224,7 +215,7 @@ fixed_fault mode l s at n type to width why b t f h =
 
 value-fault : (mode : Mode) (l : ℕ) (s : List ℕ) (at n type to : ℕ) (why : WireError) → Bytes s → Tagged s at n type to
     → (eqb type 0 ≡ false → eqb type 2 ≡ false → eqb type 5 ≡ false → eqb type 1 ≡ false → Untaken mode type)
-    → skip.Refused why ≡ skip_value s to type → FaultyIn mode l s at why
+    → Err why ≡ skip_value s to type → FaultyIn mode l s at why
 unfolding skip_value read_varint read_len
 value-fault mode l s at n type to why b t u h =
     either (eqb type 0)
@@ -316,8 +307,8 @@ in_line {l} {n} {type} {m} {at} {to} {x} {why} s low high h g p y c =
     }
 
 -- a group that is stopped has a fault
-stop-fault : {l n base : ℕ} {es : List Entry} (v rest : List ℕ) {place : ℕ} {why : WireError} → Numbered n → BodyIn l v es
-    → Stops l n (base + length (tag n 3) + length v) rest place why
+stop-fault : {l n base : ℕ} {es : List Entry} (v rest : List ℕ) {place : ℕ} {why : WireError} → Numbered n
+    → BodyIn l v es → Stops l n (base + length (tag n 3) + length v) rest place why
     → FaultIn Groups (suc l) base (tag n 3 ++ (v ++ rest)) place why
 stop-fault {l} {n} {base} v rest m g ends =
     subst (λ (i : List ℕ). FaultIn Groups (suc l) base (tag n 3 ++ i) (base + length (tag n 3) + length v) GroupOpen)
@@ -342,9 +333,9 @@ opens-fault {l} {n} {at} {to} {why} s b t c =
 
 -- what is refused after a place is stopped there
 module _ (s : List ℕ) (b : Bytes s) (at : ℕ) (later : (l to n : ℕ) (why : WireError) → at < to → to ≤ length s
-    → skip.Refused why ≡ skip_group l s to n → Stopped l n s to why) where
+    → Err why ≡ skip_group l s to n → Stopped l n s to why) where
   opened-fault : (l n to : ℕ) (why : WireError) → Tagged s at n 3 to → (at < to) × (to ≤ length s)
-      → skip.Refused why ≡ opened (λ j. skip_group j s) l to n → FaultyIn Groups l s at why
+      → Err why ≡ opened (λ j. skip_group j s) l to n → FaultyIn Groups l s at why
   opened-fault zero n to why t m h =
       let w : GroupDepth ≡ why = cc in
       subst (FaultyIn Groups zero s at) w
@@ -352,8 +343,8 @@ module _ (s : List ℕ) (b : Bytes s) (at : ℕ) (later : (l to n : ℕ) (why : 
       (too_deep (drop to s) (numbered Groups zero s at n 3 to b t)))
   opened-fault (suc l) n to why t m h = opens-fault s b t (later l to n why m.0 m.1 h)
 
-  passed-fault : (l n type to : ℕ) (why : WireError) → tagged.Field n type to ≡ read_tag s at → eqb type 4 ≡ false
-      → skip.Refused why ≡ passed (λ j. skip_group j s) l s to n type → FaultyIn Groups l s at why
+  passed-fault : (l n type to : ℕ) (why : WireError) → Ok (Some (n, type, to)) ≡ read_tag s at → eqb type 4 ≡ false
+      → Err why ≡ passed (λ j. skip_group j s) l s to n type → FaultyIn Groups l s at why
   unfolding passed
   passed-fault l n type to why q t4 h =
       let t = tag-spelt s at n type to b q in
@@ -362,13 +353,13 @@ module _ (s : List ℕ) (b : Bytes s) (at : ℕ) (later : (l to n : ℕ) (why : 
       (λ t3. value-fault Groups l s at n type to why b t (untaken_rest Groups type t.bits t3 t4)
       (simp (t3, t4) at h))
 
-  on_stopped : (l n m type to : ℕ) (why : WireError) (r : Skip) → tagged.Field m type to ≡ read_tag s at
+  on_stopped : (l n m type to : ℕ) (why : WireError) (r : Result ℕ WireError) → Ok (Some (m, type, to)) ≡ read_tag s at
       → eqb type 4 ≡ false → r ≡ passed (λ j. skip_group j s) l s to m type
-      → skip.Refused why ≡ and_on (λ e. skip_group l s e n) r → Stopped l n s at why
-  on_stopped l n m type to why (skip.Refused w) q t4 p h =
+      → Err why ≡ and_on (λ e. skip_group l s e n) r → Stopped l n s at why
+  on_stopped l n m type to why (Err w) q t4 p h =
       let e : w ≡ why = cc in
-      at_once s at (faults (passed-fault l m type to why q t4 (ap skip.Refused (sym e) ∙ p)).fault)
-  on_stopped l n m type to why (skip.Next x) q t4 p h =
+      at_once s at (faults (passed-fault l m type to why q t4 (ap Err (sym e) ∙ p)).fault)
+  on_stopped l n m type to why (Ok x) q t4 p h =
       let t = tag-spelt s at m type to b q in
       let i = tag_moves s at m type to q in
       let w = passed-past s b (λ j. skip_group j s) (group-closed s b) (group_moves s) l to m type x p in
@@ -376,18 +367,18 @@ module _ (s : List ℕ) (b : Bytes s) (at : ℕ) (later : (l to n : ℕ) (why : 
       in_line s t.least t.most t.spells.here t.spells.ends w (past-ends s w y.0 y.1)
       (later l x n why (omega (arith, i.0, y.0)) y.1 h)
 
-  in_stopped : (l n : ℕ) (why : WireError) (r : Tag) → r ≡ read_tag s at
-      → skip.Refused why ≡ in_group (λ j. skip_group j s) l s n r → Stopped l n s at why
+  in_stopped : (l n : ℕ) (why : WireError) (r : Result (Option (ℕ × ℕ × ℕ)) WireError) → r ≡ read_tag s at
+      → Err why ≡ in_group (λ j. skip_group j s) l s n r → Stopped l n s at why
   unfolding read_field tag
-  in_stopped l n why tagged.End q h =
+  in_stopped l n why (Ok None) q h =
       let w : GroupOpen ≡ why = cc in
       subst (Stopped l n s at) w
       (at_once s at (subst (λ (i : List ℕ). Stops l n at i at GroupOpen)
       (sym (drop_of_length-le s (field-ended Plain s at (ap (of_tag Plain s) q)))) ends))
-  in_stopped l n why (tagged.Refused w) q h =
+  in_stopped l n why (Err w) q h =
       let e : w ≡ why = cc in
-      at_once s at (faults (tag-fault Groups l s at why b (ap tagged.Refused (sym e) ∙ q)).fault)
-  in_stopped l n why (tagged.Field m type to) q h =
+      at_once s at (faults (tag-fault Groups l s at why b (ap Err (sym e) ∙ q)).fault)
+  in_stopped l n why (Ok (Some (m, type, to))) q h =
       either (eqb type 4)
       (λ t4. either (eqb m n) (λ u. clash (let k = simp (t4, u) at h in cc))
       (λ u. let k = simp (t4, u) at h in
@@ -399,7 +390,7 @@ module _ (s : List ℕ) (b : Bytes s) (at : ℕ) (later : (l to n : ℕ) (why : 
       (λ t4. on_stopped l n m type to why (passed (λ j. skip_group j s) l s to m type) q t4 refl (simp t4 at h))
 
 group-stopped : (k : ℕ) (s : List ℕ) → Bytes s → (l at n : ℕ) (why : WireError) → length s - at < k
-    → skip.Refused why ≡ skip_group l s at n → Stopped l n s at why
+    → Err why ≡ skip_group l s at n → Stopped l n s at why
 group-stopped zero s b l at n why i h = absurd (omega arith)
 group-stopped (suc k) s b l at n why i h =
     in_stopped s b at (λ j to m w u v. group-stopped k s b j to m w (omega arith)) l n why (read_tag s at) refl
@@ -411,7 +402,7 @@ faulty : {s : List ℕ} {at : ℕ} {why : WireError} (mode : Mode) → FaultyIn 
 faulty mode f = record { place = f.place; fault = of_field f.fault; spot-at = fault-spot f.fault }
 
 skip_fault : (mode : Mode) (s : List ℕ) (at n type to : ℕ) (why : WireError) → Bytes s
-    → tagged.Field n type to ≡ read_tag s at → skip.Refused why ≡ skip_field mode max_groups s to n type
+    → Ok (Some (n, type, to)) ≡ read_tag s at → Err why ≡ skip_field mode max_groups s to n type
     → Faulty mode s at why
 unfolding skip_field passed tag
 skip_fault Plain s at n type to why b q h =
@@ -434,36 +425,36 @@ skip_fault Groups s at n type to why b q h =
     (passed-fault s b at (λ l x m w u v. group-stopped (suc (length s - x)) s b l x m w (omega arith)) max_groups n type
     to why q t4 h))
 
-of_tag_lem : (mode : Mode) (s : List ℕ) (at : ℕ) (why : WireError) (r : Tag) → Bytes s → r ≡ read_tag s at
-    → step.Refused why ≡ of_tag mode s r → Faulty mode s at why
-of_tag_lem mode s at why tagged.End b q h = clash (cc)
-of_tag_lem mode s at why (tagged.Refused w) b q h =
+of_tag_lem : (mode : Mode) (s : List ℕ) (at : ℕ) (why : WireError) (r : Result (Option (ℕ × ℕ × ℕ)) WireError)
+    → Bytes s → r ≡ read_tag s at → Err why ≡ of_tag mode s r → Faulty mode s at why
+of_tag_lem mode s at why (Ok None) b q h = clash (cc)
+of_tag_lem mode s at why (Err w) b q h =
     let e : w ≡ why = cc in
-    faulty mode (tag-fault mode (levels_of mode) s at why b (ap tagged.Refused (sym e) ∙ q))
-of_tag_lem mode s at why (tagged.Field n type to) b q h =
+    faulty mode (tag-fault mode (levels_of mode) s at why b (ap Err (sym e) ∙ q))
+of_tag_lem mode s at why (Ok (Some (n, type, to))) b q h =
     skip_fault mode s at n type to why b q (value_skipped mode s n type to why h)
 
-pub is-fault : (mode : Mode) (s : List ℕ) (at : ℕ) (why : WireError) → Bytes s → step.Refused why ≡ read_field mode s at
+pub is-fault : (mode : Mode) (s : List ℕ) (at : ℕ) (why : WireError) → Bytes s → Err why ≡ read_field mode s at
     → Faulty mode s at why
 unfolding read_field
 is-fault mode s at why b h = of_tag_lem mode s at why (read_tag s at) b refl h
 
 -- ---- and back
 varint-bad : (s : List ℕ) (at : ℕ) (rest : List ℕ) {e : VarintError} → drop at s ≡ rest → Bad rest e
-    → read_uvarint (drop at s) ≡ Unread e
+    → read_uvarint (drop at s) ≡ Err e
 varint-bad s at rest {e} h d = ap read_uvarint h ∙ (bad-exactly rest e).1 d
 
 -- a tag that is no varint, or whose number is that of no field
-tag_refused_lem : (s : List ℕ) (at : ℕ) (rest : List ℕ) {e : VarintError} → 0 < length rest → Bad rest e → drop at s ≡ rest
-    → read_tag s at ≡ tagged.Refused (Varint e at)
-unfolding read_tag
+tag_refused_lem : (s : List ℕ) (at : ℕ) (rest : List ℕ) {e : VarintError} → 0 < length rest → Bad rest e
+    → drop at s ≡ rest → read_tag s at ≡ Err (Varint e at)
+unfolding read_tag read_varint
 tag_refused_lem s at rest l d h =
     let i : at < length s = omega (arith, length-drop at s, ap length h) in
     simp (lt-leb _ _ i, varint-bad s at rest h d)
 
 number-refused : (s : List ℕ) (at n type : ℕ) (rest : List ℕ) → NoField n → type < 8 → n * 8 + type < 2 ^ 64
-    → drop at s ≡ tag n type ++ rest → read_tag s at ≡ tagged.Refused (InvalidFieldNumber n at)
-unfolding read_tag tag
+    → drop at s ≡ tag n type ++ rest → read_tag s at ≡ Err (InvalidFieldNumber n at)
+unfolding read_tag tag read_varint
 number-refused s at n type rest none b l h =
     let u = uvarint-some (0 * 8 + type) in
     let k = left-fits s at (uvarint (0 * 8 + type)) rest (omega arith) h in
@@ -486,7 +477,7 @@ number-refused s at n type rest (large m) b l h =
 -- values that are not passed
 fixed_refused : {type width : ℕ} (mode : Mode) (l : ℕ) (s : List ℕ) (n to : ℕ) (rest : List ℕ) → FixedWidth type width
     → drop to s ≡ rest → length rest < width
-    → skip_field mode l s to n type ≡ skip.Refused (FieldOverflow to width (length rest))
+    → skip_field mode l s to n type ≡ Err (FieldOverflow to width (length rest))
 unfolding skip_value skip_fixed
 fixed_refused mode l s n to rest i64 h z =
     let e : length s - to ≡ length rest = sym (length-drop to s) ∙ ap length h in
@@ -496,27 +487,27 @@ fixed_refused mode l s n to rest i32 h z =
     skip_value_lem mode l s to n 5 refl refl ∙ simp (e, lt-ltb (length rest) 4 z)
 
 type_refused : {mode : Mode} {type : ℕ} (l : ℕ) (s : List ℕ) (n to : ℕ) → Untaken mode type
-    → skip_field mode l s to n type ≡ skip.Refused (UnsupportedWireType type to)
+    → skip_field mode l s to n type ≡ Err (UnsupportedWireType type to)
 unfolding skip_field skip_value
 type_refused l s n to start-group = refl
 type_refused l s n to end-group = refl
 type_refused l s n to (six {m}) = skip_value_lem m l s to n 6 refl refl
 type_refused l s n to (seven {m}) = skip_value_lem m l s to n 7 refl refl
 
-varint-refused : (mode : Mode) (l : ℕ) (s : List ℕ) (n to : ℕ) (e : VarintError) → read_uvarint (drop to s) ≡ Unread e
-    → skip_field mode l s to n 0 ≡ skip.Refused (Varint e to)
+varint-refused : (mode : Mode) (l : ℕ) (s : List ℕ) (n to : ℕ) (e : VarintError) → read_uvarint (drop to s) ≡ Err e
+    → skip_field mode l s to n 0 ≡ Err (Varint e to)
 unfolding skip_value read_varint
 varint-refused mode l s n to e h = skip_value_lem mode l s to n 0 refl refl ∙ simp h
 
-length-refused : (mode : Mode) (l : ℕ) (s : List ℕ) (n to : ℕ) (e : VarintError) → read_uvarint (drop to s) ≡ Unread e
-    → skip_field mode l s to n 2 ≡ skip.Refused (Varint e to)
-unfolding skip_value read_len
+length-refused : (mode : Mode) (l : ℕ) (s : List ℕ) (n to : ℕ) (e : VarintError) → read_uvarint (drop to s) ≡ Err e
+    → skip_field mode l s to n 2 ≡ Err (Varint e to)
+unfolding skip_value read_len read_varint
 length-refused mode l s n to e h = skip_value_lem mode l s to n 2 refl refl ∙ simp h
 
 long-refused : (mode : Mode) (l : ℕ) (s : List ℕ) (n to size : ℕ) (rest : List ℕ) → size < 2 ^ 64
     → drop to s ≡ uvarint size ++ rest → length rest < size
-    → skip_field mode l s to n 2 ≡ skip.Refused (FieldOverflow (to + length (uvarint size)) size (length rest))
-unfolding skip_value read_len
+    → skip_field mode l s to n 2 ≡ Err (FieldOverflow (to + length (uvarint size)) size (length rest))
+unfolding skip_value read_len read_varint
 long-refused mode l s n to size rest b h z =
     let a = to + length (uvarint size) in
     let e : length s - a ≡ length rest = sym (length-drop a s) ∙ ap length (drop-front s to (uvarint size) rest h) in
@@ -524,13 +515,13 @@ long-refused mode l s n to size rest b h z =
 
 -- how the field at a place is refused: by its tag, or after it
 data Refuses (mode : Mode) (l : ℕ) (s : List ℕ) (at : ℕ) (why : WireError) : Type 0 where
-  by-tag : read_tag s at ≡ tagged.Refused why → Refuses mode l s at why
-  by_value : (n type to : ℕ) → read_tag s at ≡ tagged.Field n type to → (mode ≡ Groups → eqb type 4 ≡ false)
-      → skip_field mode l s to n type ≡ skip.Refused why → Refuses mode l s at why
+  by-tag : read_tag s at ≡ Err why → Refuses mode l s at why
+  by_value : (n type to : ℕ) → read_tag s at ≡ Ok (Some (n, type, to)) → (mode ≡ Groups → eqb type 4 ≡ false)
+      → skip_field mode l s to n type ≡ Err why → Refuses mode l s at why
 
 -- so in a group
 group-refused : {l : ℕ} {why : WireError} (s : List ℕ) (at n : ℕ) → Refuses Groups l s at why
-    → skip_group l s at n ≡ skip.Refused why
+    → skip_group l s at n ≡ Err why
 unfolding skip_field
 group-refused {l} s at n (by-tag h) = group-step l s at n ∙ ap (in_group (λ j. skip_group j s) l s n) h
 group-refused {l} s at n (by_value m type to h t4 p) =
@@ -540,7 +531,7 @@ group-refused {l} s at n (by_value m type to h t4 p) =
 tag-then : {l n : ℕ} {why : WireError} (mode : Mode) (type : ℕ) (s : List ℕ) (at : ℕ) (rest : List ℕ) → Numbered n
     → type < 8 → (mode ≡ Groups → eqb type 4 ≡ false) → drop at s ≡ tag n type ++ rest
     → (drop (at + length (tag n type)) s ≡ rest
-    → skip_field mode l s (at + length (tag n type)) n type ≡ skip.Refused why)
+    → skip_field mode l s (at + length (tag n type)) n type ≡ Err why)
     → Refuses mode l s at why
 unfolding tag
 tag-then {n = n} mode type s at rest m b t4 h f =
@@ -550,7 +541,7 @@ tag-then {n = n} mode type s at rest m b t4 h f =
 -- a start tag, and a group that is not passed
 group-then : {l n : ℕ} {why : WireError} (s : List ℕ) (at : ℕ) (rest : List ℕ) → Numbered n
     → drop at s ≡ tag n 3 ++ rest
-    → (drop (at + length (tag n 3)) s ≡ rest → skip_group l s (at + length (tag n 3)) n ≡ skip.Refused why)
+    → (drop (at + length (tag n 3)) s ≡ rest → skip_group l s (at + length (tag n 3)) n ≡ Err why)
     → Refuses Groups (suc l) s at why
 unfolding skip_field passed
 group-then s at rest m h f = tag-then Groups 3 s at rest m (omega arith) (λ e. refl) h f
@@ -614,7 +605,7 @@ top_levels Plain s at n type = refl
 top_levels Groups s at n type = refl
 
 field-refused : {why : WireError} (mode : Mode) (s : List ℕ) (at : ℕ) → Refuses mode (levels_of mode) s at why
-    → read_field mode s at ≡ step.Refused why
+    → read_field mode s at ≡ Err why
 unfolding read_field
 field-refused mode s at (by-tag h) = ap (of_tag mode s) h
 field-refused {why} mode s at (by_value n type to h t4 p) =
@@ -622,7 +613,7 @@ field-refused {why} mode s at (by_value n type to h t4 p) =
 
 pub fault-refused : {place : ℕ} {r : List ℕ} {why : WireError} (mode : Mode) (s : List ℕ) (at : ℕ)
     → Fault mode at r place why → drop at s ≡ r
-    → (read_field mode s at ≡ step.Refused why) × (spot_of why ≡ placed_as (spot_of why) (spot place))
+    → (read_field mode s at ≡ Err why) × (spot_of why ≡ placed_as (spot_of why) (Some (spot place)))
 unfolding read_field skip_field passed tag
 fault-refused mode s at (of_field f) h = (field-refused mode s at (fault-refuses s f h), fault-spot f)
 fault-refused mode s at (stray {n = n} r k) h =

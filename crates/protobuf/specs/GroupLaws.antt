@@ -1,28 +1,21 @@
 -- The fields of a group and its end tag are passed over exactly where the grammar has them.
-use Rattle.std.specs.Prelude.{ℕ, zero, suc, ◌+◌, ◌-◌, ◌*◌, ◌≤◌, ◌<◌, ◌≡◌, refl, List, [], ◌∷◌, ◌++◌, false, length, drop, eqb}
+use Rattle.std.specs.Prelude.{Result, Ok, Err, Option, Some, None, ℕ, zero, suc, ◌+◌, ◌-◌, ◌*◌, ◌≤◌, ◌<◌, ◌≡◌, refl, List, [], ◌∷◌, ◌++◌, false, length, drop, eqb}
 use Rattle.std.proofs.Common.{sym, ap, ap₂, ◌∙◌, append_assoc, arith, length-append, length-drop, eqb-true, eq-eqb, le-ltb}
 use Rattle.std.proofs.Math.Path.{subst}
 use Rattle.basis.specs.Cases.{either, clash}
 use Rattle.basis.specs.Bytes.{Bytes}
 use Rattle.peer_id.specs.Uvarint.{uvarint}
 use Rattle.peer_id.specs.Laws.{uvarint-some}
-use Rattle.protobuf.specs.declared.Tag.{Tag}
-use Rattle.protobuf.specs.declared.Tag.TheVariants as tag
-use Rattle.protobuf.specs.declared.Part.{Part}
-use Rattle.protobuf.specs.declared.Part.TheVariants as part
-use Rattle.protobuf.specs.declared.VarintValue.{VarintValue}
-use Rattle.protobuf.specs.declared.VarintValue.TheVariants as value
-use Rattle.protobuf.specs.declared.Skip.{Skip}
-use Rattle.protobuf.specs.declared.Skip.TheVariants as skip
 use Rattle.protobuf.specs.Grammar.{Payload, number, eight, bytes, group, four, Entry, Value, varint, i64}
 use Rattle.protobuf.specs.Grammar.{len-prefix, i32, BodyIn, none, field, a_group, Holds, value, grouped}
-use Rattle.protobuf.specs.Field.{read_tag, read_len, read_varint, skip_fixed, past_value, past_part, skip_value, opened}
+use Rattle.protobuf.specs.Field.{read_tag, read_len, read_varint, skip_fixed, past_value, skip_value, opened}
 use Rattle.protobuf.specs.Field.{passed, and_on, in_group, skip_from, skip_group}
 use Rattle.protobuf.specs.Laws.{Moves, passed_moves, from_moves, group-step}
 use Rattle.protobuf.specs.Walk.{between}
 use Rattle.protobuf.specs.WalkLaws.{between-length}
 use Rattle.protobuf.specs.Spelt.{reads-spelt, drop-front, split, varint-spelt, part-spelt, tag-spelt, fixed_at}
 use Rattle.protobuf.specs.Spelt.{left-fits, fixed_reads, tag-reads}
+use Rattle.protobuf.specs.declared.WireError.{WireError}
 
 -- what may stand after a tag makes a field of a body
 pub in_front : {l n type : ℕ} {v rest : List ℕ} {p : Payload} {es : List Entry} → 1 ≤ n → n ≤ 536870911
@@ -38,17 +31,17 @@ pub record Past (l n type : ℕ) (s : List ℕ) (to e : ℕ) : Type 0 where
   pub is : Holds l n type bytes_of holds
   pub here : drop to s ≡ bytes_of ++ drop e s
 
-past-varint : (l n : ℕ) (s : List ℕ) (to e : ℕ) (r : VarintValue) → Bytes s → r ≡ read_varint s to
-    → skip.Next e ≡ past_value r → Past l n 0 s to e
-past-varint l n s to e (value.Value x y) b q h =
+past-varint : (l n : ℕ) (s : List ℕ) (to e : ℕ) (r : Result (ℕ × ℕ) WireError) → Bytes s → r ≡ read_varint s to
+    → Ok e ≡ past_value r → Past l n 0 s to e
+past-varint l n s to e (Ok (x, y)) b q h =
     let t = varint-spelt s to x y b q in
     let z : e ≡ y = cc in
     rw z (record { bytes_of = uvarint x; holds = number x; is = value (varint t.bound); here = t.here })
-past-varint l n s to e (value.Refused why) b q h = clash (cc)
+past-varint l n s to e (Err why) b q h = clash (cc)
 
-past-len : (l n : ℕ) (s : List ℕ) (to e : ℕ) (r : Part) → Bytes s → r ≡ read_len s to → skip.Next e ≡ past_part r
-    → Past l n 2 s to e
-past-len l n s to e (part.Bytes a y) b q h =
+past-len : (l n : ℕ) (s : List ℕ) (to e : ℕ) (r : Result (ℕ × ℕ) WireError) → Bytes s → r ≡ read_len s to
+    → Ok e ≡ past_value r → Past l n 2 s to e
+past-len l n s to e (Ok (a, y)) b q h =
     let t = part-spelt s to a y b q in
     let d = between s a y in
     let g : length d ≡ y - a = between-length s a y t.within in
@@ -61,10 +54,10 @@ past-len l n s to e (part.Bytes a y) b q h =
       here = t.size.here ∙ ap₂ (λ (k : ℕ) (x : List ℕ). uvarint k ++ x) (sym g) (split s a y t.order)
           ∙ sym (append_assoc (uvarint (length d)) d (drop y s));
     })
-past-len l n s to e (part.Refused why) b q h = clash (cc)
+past-len l n s to e (Err why) b q h = clash (cc)
 
 past_fixed : (l n type k : ℕ) (s : List ℕ) (to e : ℕ) (holds : List ℕ → Payload)
-    → ((d : List ℕ) → length d ≡ k → Value type d (holds d)) → 0 < k → skip.Next e ≡ skip_fixed (length s) to k
+    → ((d : List ℕ) → length d ≡ k → Value type d (holds d)) → 0 < k → Ok e ≡ skip_fixed (length s) to k
     → Past l n type s to e
 past_fixed l n type k s to e holds v z h =
     let t = fixed_at s to k e z h in
@@ -77,7 +70,7 @@ past_fixed l n type k s to e holds v z h =
       here = split s to e o;
     }
 
-past_value_lem : (l n type : ℕ) (s : List ℕ) (to e : ℕ) → Bytes s → skip.Next e ≡ skip_value s to type → Past l n type s to e
+past_value_lem : (l n type : ℕ) (s : List ℕ) (to e : ℕ) → Bytes s → Ok e ≡ skip_value s to type → Past l n type s to e
 unfolding skip_value
 past_value_lem l n type s to e b h =
     either (eqb type 0)
@@ -142,15 +135,15 @@ closes {n = n} s c =
     }
 
 -- what passes a group finds it closed, so does what passes its fields
-abbrev Closing : List ℕ → (ℕ → ℕ → ℕ → Skip) → Type 0
-Closing s go = (l at n e : ℕ) → skip.Next e ≡ go l at n → Closed l n s at e
+abbrev Closing : List ℕ → (ℕ → ℕ → ℕ → Result ℕ WireError) → Type 0
+Closing s go = (l at n e : ℕ) → Ok e ≡ go l at n → Closed l n s at e
 
-module _ (s : List ℕ) (b : Bytes s) (go : ℕ → ℕ → ℕ → Skip) (closed : Closing s go) (moves : Moves s go) where
-  opened-past : (l at n e : ℕ) → skip.Next e ≡ opened go l at n → Past l n 3 s at e
+module _ (s : List ℕ) (b : Bytes s) (go : ℕ → ℕ → ℕ → Result ℕ WireError) (closed : Closing s go) (moves : Moves s go) where
+  opened-past : (l at n e : ℕ) → Ok e ≡ opened go l at n → Past l n 3 s at e
   opened-past zero at n e h = clash (cc)
   opened-past (suc l) at n e h = closes s (closed l at n e h)
 
-  pub passed-past : (l at n type e : ℕ) → skip.Next e ≡ passed go l s at n type → Past l n type s at e
+  pub passed-past : (l at n type e : ℕ) → Ok e ≡ passed go l s at n type → Past l n type s at e
   unfolding passed
   passed-past l at n type e h =
       either (eqb type 3)
@@ -158,20 +151,21 @@ module _ (s : List ℕ) (b : Bytes s) (go : ℕ → ℕ → ℕ → Skip) (close
       (λ t3. either (eqb type 4) (λ t4. clash (let k = simp (t3, t4) at h in cc))
       (λ t4. past_value_lem l n type s at e b (simp (t3, t4) at h)))
 
-  on_closed : (l at n m type to e : ℕ) (r : Skip) → tag.Field m type to ≡ read_tag s at → r ≡ passed go l s to m type
-      → skip.Next e ≡ and_on (λ x. go l x n) r → Closed l n s at e
-  on_closed l at n m type to e (skip.Next x) q p h =
+  on_closed : (l at n m type to e : ℕ) (r : Result ℕ WireError) → Ok (Some (m, type, to)) ≡ read_tag s at
+      → r ≡ passed go l s to m type → Ok e ≡ and_on (λ x. go l x n) r → Closed l n s at e
+  on_closed l at n m type to e (Ok x) q p h =
       let t = tag-spelt s at m type to b q in
       let w = passed-past l to m type x p in
       let y = passed_moves s go moves l to m type x p in
       front s t.least t.most t.spells.here t.spells.ends w (past-ends s w y.0 y.1)
       (closed l x n e h)
-  on_closed l at n m type to e (skip.Refused why) q p h = clash (cc)
+  on_closed l at n m type to e (Err why) q p h = clash (cc)
 
-  in_closed : (l at n e : ℕ) (r : Tag) → r ≡ read_tag s at → skip.Next e ≡ in_group go l s n r → Closed l n s at e
-  in_closed l at n e tag.End q h = clash (cc)
-  in_closed l at n e (tag.Refused why) q h = clash (cc)
-  in_closed l at n e (tag.Field m type to) q h =
+  in_closed : (l at n e : ℕ) (r : Result (Option (ℕ × ℕ × ℕ)) WireError) → r ≡ read_tag s at
+      → Ok e ≡ in_group go l s n r → Closed l n s at e
+  in_closed l at n e (Ok None) q h = clash (cc)
+  in_closed l at n e (Err why) q h = clash (cc)
+  in_closed l at n e (Ok (Some (m, type, to))) q h =
       either (eqb type 4)
       (λ t4. either (eqb m n)
       (λ w. let k = simp (t4, w) at h in
@@ -202,13 +196,13 @@ group-closed s b l at n e h = from-closed (suc (length s - at)) s b l at n e h
 -- ---- from the grammar: what it has is passed
 -- a value
 value_passes : {type : ℕ} {v : List ℕ} {p : Payload} (s : List ℕ) (to : ℕ) (rest : List ℕ) → Value type v p
-    → drop to s ≡ v ++ rest → skip_value s to type ≡ skip.Next (to + length v)
+    → drop to s ≡ v ++ rest → skip_value s to type ≡ Ok (to + length v)
 unfolding skip_value read_varint read_len
 value_passes s to rest (varint {v} b) h = simp (reads-spelt s to v rest b h)
 value_passes s to rest (i64 {d} g) h = fixed_reads s to d rest 8 (omega arith) g h
-    ∙ ap (λ (k : ℕ). skip.Next (to + k)) (sym g)
+    ∙ ap (λ (k : ℕ). Ok (to + k)) (sym g)
 value_passes s to rest (i32 {d} g) h = fixed_reads s to d rest 4 (omega arith) g h
-    ∙ ap (λ (k : ℕ). skip.Next (to + k)) (sym g)
+    ∙ ap (λ (k : ℕ). Ok (to + k)) (sym g)
 value_passes s to rest (len-prefix {d} b) h =
     let u = uvarint (length d) in
     let h1 : drop to s ≡ u ++ (d ++ rest) = h ∙ append_assoc u d rest in
@@ -216,7 +210,7 @@ value_passes s to rest (len-prefix {d} b) h =
     let l = left-fits s to u (d ++ rest) (omega (arith, uvarint-some (length d))) h1 in
     let k : length d ≤ length s - a = omega (arith, length-append d rest) in
     let e : a + length d ≡ to + length (u ++ d) = omega (arith, length-append u d) in
-    simp (reads-spelt s to (length d) (d ++ rest) b h1, le-ltb _ _ k) (ap skip.Next e)
+    simp (reads-spelt s to (length d) (d ++ rest) b h1, le-ltb _ _ k) (ap Ok e)
 
 value_type : {type : ℕ} {v : List ℕ} {p : Payload} → Value type v p → (eqb type 3 ≡ false) × (eqb type 4 ≡ false)
     × (type < 8)
@@ -226,12 +220,12 @@ value_type (len-prefix b) = (refl, refl, omega arith)
 value_type (i32 g) = (refl, refl, omega arith)
 
 passed-value : (l : ℕ) (s : List ℕ) (to m type e : ℕ) → eqb type 3 ≡ false → eqb type 4 ≡ false
-    → skip_value s to type ≡ skip.Next e → passed (λ j. skip_group j s) l s to m type ≡ skip.Next e
+    → skip_value s to type ≡ Ok e → passed (λ j. skip_group j s) l s to m type ≡ Ok e
 unfolding passed
 passed-value l s to m type e t3 t4 q = simp (t3, t4) q
 
-passed-group : (l : ℕ) (s : List ℕ) (to m e : ℕ) → skip_group l s to m ≡ skip.Next e
-    → passed (λ j. skip_group j s) (suc l) s to m 3 ≡ skip.Next e
+passed-group : (l : ℕ) (s : List ℕ) (to m e : ℕ) → skip_group l s to m ≡ Ok e
+    → passed (λ j. skip_group j s) (suc l) s to m 3 ≡ Ok e
 unfolding passed
 passed-group l s to m e q = q
 
@@ -239,7 +233,7 @@ passed-group l s to m e q = q
 tag_on : (l : ℕ) (s : List ℕ) (at n m type : ℕ) (v rest : List ℕ) → 1 ≤ m → m ≤ 536870911 → type < 8
     → eqb type 4 ≡ false → drop at s ≡ uvarint (m * 8 + type) ++ (v ++ rest)
     → passed (λ j. skip_group j s) l s (at + length (uvarint (m * 8 + type))) m type
-    ≡ skip.Next (at + length (uvarint (m * 8 + type)) + length v)
+    ≡ Ok (at + length (uvarint (m * 8 + type)) + length v)
     → skip_group l s at n ≡ skip_group l s (at + length (uvarint (m * 8 + type)) + length v) n
 tag_on l s at n m type v rest low high bits t4 h p =
     group-step l s at n ∙ ap (in_group (λ j. skip_group j s) l s n) (tag-reads s at m type (v ++ rest) low high bits h)
@@ -247,7 +241,7 @@ tag_on l s at n m type v rest low high bits t4 h p =
 
 -- a group's end tag
 group-ends : (l : ℕ) (s : List ℕ) (at n : ℕ) (rest : List ℕ) → 1 ≤ n → n ≤ 536870911
-    → drop at s ≡ uvarint (n * 8 + 4) ++ rest → skip_group l s at n ≡ skip.Next (at + length (uvarint (n * 8 + 4)))
+    → drop at s ≡ uvarint (n * 8 + 4) ++ rest → skip_group l s at n ≡ Ok (at + length (uvarint (n * 8 + 4)))
 group-ends l s at n rest low high h =
     group-step l s at n ∙ ap (in_group (λ j. skip_group j s) l s n) (tag-reads s at n 4 rest low high (omega arith) h)
     ∙ simp (eq-eqb n n refl)
@@ -276,11 +270,11 @@ group_over s at n rest (a_group {l = l} {n = m} {v = v} {rest = more} lo hi g r)
     let h3 : drop (at + length t + length (v ++ y)) s ≡ more ++ rest =
     drop-front s (at + length t) (v ++ y) (more ++ rest) h2 in
     let h4 : drop (at + length t) s ≡ v ++ (y ++ (more ++ rest)) = h2 ∙ append_assoc v y (more ++ rest) in
-    let i : skip_group l s (at + length t) m ≡ skip.Next (at + length t + length (v ++ y)) =
+    let i : skip_group l s (at + length t) m ≡ Ok (at + length t + length (v ++ y)) =
     group_over s (at + length t) m (y ++ (more ++ rest)) g h4
     ∙ group-ends l s (at + length t + length v) m (more ++ rest) lo hi
     (drop-front s (at + length t) v (y ++ (more ++ rest)) h4)
-    ∙ ap skip.Next (omega (arith, length-append v y)) in
+    ∙ ap Ok (omega (arith, length-append v y)) in
     tag_on (suc l) s at n m 3 (v ++ y) (more ++ rest) lo hi (omega arith) refl h1 (passed-group l s _ m _ i)
     ∙ group_over s (at + length t + length (v ++ y)) n rest r h3
     ∙ ap (λ (k : ℕ). skip_group (suc l) s k n)
@@ -289,7 +283,7 @@ group_over s at n rest (a_group {l = l} {n = m} {v = v} {rest = more} lo hi g r)
 -- the fields of a group and its end tag
 pub group-passes : {l : ℕ} {v : List ℕ} {es : List Entry} (s : List ℕ) (at n : ℕ) (rest : List ℕ) → 1 ≤ n
     → n ≤ 536870911 → BodyIn l v es → drop at s ≡ v ++ (uvarint (n * 8 + 4) ++ rest)
-    → skip_group l s at n ≡ skip.Next (at + length v + length (uvarint (n * 8 + 4)))
+    → skip_group l s at n ≡ Ok (at + length v + length (uvarint (n * 8 + 4)))
 group-passes {l} {v} s at n rest low high g h =
     group_over s at n (uvarint (n * 8 + 4) ++ rest) g h
     ∙ group-ends l s (at + length v) n rest low high (drop-front s at v (uvarint (n * 8 + 4) ++ rest) h)

@@ -1,6 +1,6 @@
 -- Laws between the modes: a field is read alike in both but where the first refuses type 3 or 4 by 5; the second never
 -- refuses by 5 with these; and what the first accepts the second accepts, with the same meaning.
-use Rattle.std.specs.Prelude.{ℕ, zero, suc, ◌-◌, ◌≤◌, ◌<◌, ◌≡◌, refl, List, [], ◌∷◌, true, false, length, eqb}
+use Rattle.std.specs.Prelude.{Result, Ok, Err, Option, Some, None, ℕ, zero, suc, ◌-◌, ◌≤◌, ◌<◌, ◌≡◌, refl, List, [], ◌∷◌, true, false, length, eqb}
 use Rattle.std.proofs.Common.{sym, ap, subst, ◌∙◌, arith, eqb-true}
 use Rattle.basis.specs.declared.Mode.{Mode}
 use Rattle.basis.specs.declared.Mode.TheVariants.{Plain, Groups}
@@ -8,11 +8,7 @@ use Rattle.basis.specs.Cases.{either, clash}
 use Rattle.basis.specs.Bytes.{Bytes}
 use Rattle.protobuf.specs.declared.WireError.{WireError}
 use Rattle.protobuf.specs.declared.WireError.TheVariants.{UnsupportedWireType}
-use Rattle.protobuf.specs.declared.Tag.{Tag}
-use Rattle.protobuf.specs.declared.Tag.TheVariants as tag
 use Rattle.protobuf.specs.declared.Field.{Field}
-use Rattle.protobuf.specs.declared.Step.{Step}
-use Rattle.protobuf.specs.declared.Step.TheVariants as step
 use Rattle.protobuf.specs.Grammar.{Payload, number, eight, bytes, group, four, Entry, Value, varint, i64}
 use Rattle.protobuf.specs.Grammar.{len-prefix, i32, BodyIn, none, field, a_group, max_groups, Body}
 use Rattle.protobuf.specs.Field.{read_tag, skip_value, skip_field, read_value, of_tag, read_field}
@@ -50,12 +46,12 @@ AllUngrouped (e ∷ es) = Ungrouped e.payload × AllUngrouped es
 -- ---- a field
 -- the first mode refuses types 3 and 4 by 5
 plain-start : (s : List ℕ) (n type to : ℕ) → eqb type 3 ≡ true
-    → read_value Plain s n type to ≡ step.Refused (UnsupportedWireType 3 to)
+    → read_value Plain s n type to ≡ Err (UnsupportedWireType 3 to)
 unfolding read_value skip_field skip_value
 plain-start s n type to t = rw (eqb-true type 3 t) refl
 
 plain_end : (s : List ℕ) (n type to : ℕ) → eqb type 4 ≡ true
-    → read_value Plain s n type to ≡ step.Refused (UnsupportedWireType 4 to)
+    → read_value Plain s n type to ≡ Err (UnsupportedWireType 4 to)
 unfolding read_value skip_field skip_value
 plain_end s n type to t = rw (eqb-true type 4 t) refl
 
@@ -68,18 +64,18 @@ same-value s n type to t3 t4 =
     skip_value_lem Groups max_groups s to n type t3 t4 ∙ sym (skip_value_lem Plain max_groups s to n type t3 t4) in
     rw e refl
 
-same_tag : (s : List ℕ) (r : Tag) → ((why : WireError) → step.Refused why ≡ of_tag Plain s r → ByGroup why → ⊥)
-    → of_tag Groups s r ≡ of_tag Plain s r
-same_tag s tag.End h = refl
-same_tag s (tag.Refused why) h = refl
-same_tag s (tag.Field n type to) h =
+same_tag : (s : List ℕ) (r : Result (Option (ℕ × ℕ × ℕ)) WireError)
+    → ((why : WireError) → Err why ≡ of_tag Plain s r → ByGroup why → ⊥) → of_tag Groups s r ≡ of_tag Plain s r
+same_tag s (Ok None) h = refl
+same_tag s (Err why) h = refl
+same_tag s (Ok (Some (n, type, to))) h =
     either (eqb type 3) (λ t3. absurd (h _ (sym (plain-start s n type to t3)) start))
     (λ t3. either (eqb type 4) (λ t4. absurd (h _ (sym (plain_end s n type to t4)) end))
     (λ t4. same-value s n type to t3 t4))
 
 -- the modes differ only where the first refuses type 3 or 4 by 5
 pub same-field : (s : List ℕ) (at : ℕ)
-    → ((why : WireError) → step.Refused why ≡ read_field Plain s at → ByGroup why → ⊥)
+    → ((why : WireError) → Err why ≡ read_field Plain s at → ByGroup why → ⊥)
     → read_field Groups s at ≡ read_field Plain s at
 unfolding read_field
 same-field s at h = same_tag s (read_tag s at) h
@@ -105,7 +101,7 @@ of-fault type offset (of_field f) e = fault_type type offset f e
 of-fault type offset (stray s n) e = clash (cc)
 
 pub type_untaken : (mode : Mode) (s : List ℕ) (at type offset : ℕ) → Bytes s
-    → step.Refused (UnsupportedWireType type offset) ≡ read_field mode s at → Untaken mode type
+    → Err (UnsupportedWireType type offset) ≡ read_field mode s at → Untaken mode type
 type_untaken mode s at type offset b h =
     of-fault type offset (is-fault mode s at (UnsupportedWireType type offset) b h).fault refl
 
@@ -116,7 +112,7 @@ taken six e = omega arith
 taken seven e = omega arith
 
 -- the second mode refuses neither type 3 nor type 4 by 5
-pub never-by-group : (s : List ℕ) (at : ℕ) (why : WireError) → Bytes s → step.Refused why ≡ read_field Groups s at
+pub never-by-group : (s : List ℕ) (at : ℕ) (why : WireError) → Bytes s → Err why ≡ read_field Groups s at
     → ByGroup why → ⊥
 never-by-group s at why b h (start {offset}) =
     let k : 5 < 3 = taken (type_untaken Groups s at 3 offset b h) refl in omega arith
@@ -126,16 +122,15 @@ never-by-group s at why b h (end {offset}) =
 -- ---- a walk
 module _ (s : List ℕ) where
   -- a step, where the walks after it are the same
-  same_step : (at : ℕ) (r : Step) → r ≡ read_field Plain s at → NoGroup (on_step (walk_at Plain s) r)
-      → ((f : Field) → step.At f ≡ read_field Plain s at → NoGroup (walk_at Plain s f.next)
-      → walk_at Groups s f.next ≡ walk_at Plain s f.next)
-      → on_step (walk_at Groups s) (read_field Groups s at) ≡ on_step (walk_at Plain s) r
-  same_step at step.End q g ih =
+  same_step : (at : ℕ) (r : Result (Option Field) WireError) → r ≡ read_field Plain s at
+      → NoGroup (on_step (walk_at Plain s) r)
+      → ((f : Field) → Ok (Some f) ≡ read_field Plain s at → NoGroup (walk_at Plain s f.next) → walk_at Groups s f.next ≡ walk_at Plain s f.next) → on_step (walk_at Groups s) (read_field Groups s at) ≡ on_step (walk_at Plain s) r
+  same_step at (Ok None) q g ih =
       ap (on_step (walk_at Groups s)) (same-field s at (λ why e. clash (cc)) ∙ sym q)
-  same_step at (step.Refused w) q g ih =
+  same_step at (Err w) q g ih =
       ap (on_step (walk_at Groups s))
       (same-field s at (λ why e y. let i : why ≡ w = cc in g (subst ByGroup i y)) ∙ sym q)
-  same_step at (step.At f) q g ih =
+  same_step at (Ok (Some f)) q g ih =
       ap (on_step (walk_at Groups s)) (same-field s at (λ why e. clash (cc)) ∙ sym q)
       ∙ ap (λ (w : Fields). f then w) (ih f q g)
 
@@ -156,7 +151,8 @@ whole-passes [] = tt
 whole-passes (f ∷ fs) = whole-passes fs
 
 -- where the first mode's reaches the end, the second's finds the same fields
-pub same_whole : (s : List ℕ) (at : ℕ) (fs : List Field) → walk_at Plain s at ≡ whole fs → walk_at Groups s at ≡ whole fs
+pub same_whole : (s : List ℕ) (at : ℕ) (fs : List Field) → walk_at Plain s at ≡ whole fs
+    → walk_at Groups s at ≡ whole fs
 same_whole s at fs h = same-walk s at (subst NoGroup (sym h) (whole-passes fs)) ∙ h
 
 -- ---- a body

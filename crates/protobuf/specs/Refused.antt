@@ -1,18 +1,18 @@
 -- A refused writer of a field leaves the lent bytes as they were, whatever bytes xs it has for a field n of that type.
-use Rattle.std.specs.Prelude.{ℕ, ◌≡◌, refl, List}
-use Rattle.basis.specs.declared.Written.{Written}
+use Rattle.std.specs.Prelude.{Result, Ok, Err, ℕ, ◌≡◌, refl, List}
 use Rattle.basis.specs.Lists.{refused_write}
-use Rattle.protobuf.specs.declared.Checked.{Checked}
-use Rattle.protobuf.specs.declared.Checked.TheVariants.{Fine, Refused as Wrong}
 use Rattle.protobuf.specs.Told.{encoded_told}
 use Rattle.protobuf.specs.Encode.{tag, varint_field, bytes_field, tag_refused, of_written, answer_of, left_of, encoded}
 use Rattle.protobuf.specs.Encode.{left}
+use Rattle.basis.specs.declared.ShortRoom.{ShortRoom}
+use Rattle.protobuf.specs.declared.Refusal.{Refusal}
 
 -- where the tag can be written, and where it cannot
-refused-by : (xs out : List ℕ) (c : Checked) → ((encoded_told (answer_of xs out c)).number ≡ 0 → ⊥)
+refused-by : (xs out : List ℕ) (c : Result (Unit {0}) Refusal) → ((encoded_told (answer_of xs out c)).number ≡ 0 → ⊥)
     → left_of xs out c ≡ out
-refused-by xs out Fine h = refused_write xs out (λ (w : Written). (encoded_told (of_written w)).number) (λ n. refl) h
-refused-by xs out (Wrong why) h = refl
+refused-by xs out (Ok tt) h =
+    refused_write xs out (λ (w : Result ℕ ShortRoom). (encoded_told (of_written w)).number) (λ n. refl) h
+refused-by xs out (Err why) h = refl
 
 pub refused-field : (n type : ℕ) (xs out : List ℕ) → ((encoded_told (encoded n type xs out)).number ≡ 0 → ⊥)
     → left n type xs out ≡ out

@@ -1,21 +1,18 @@
 -- What the readers of a tag, a varint, a length and a fixed number of bytes find is spelt out at its place, and what is
 -- spelt out there is found.
-use Rattle.std.specs.Prelude.{ℕ, ◌+◌, ◌-◌, ◌*◌, ◌/◌, ◌%◌, ◌^◌, ◌≤◌, ◌<◌, ◌≡◌, refl, List, ◌++◌, ◌≢◌, length, take, drop, ltb, leb, eqb}
+use Rattle.std.specs.Prelude.{Result, Ok, Err, Some, ℕ, ◌+◌, ◌-◌, ◌*◌, ◌/◌, ◌%◌, ◌^◌, ◌≤◌, ◌<◌, ◌≡◌, refl, List, ◌++◌, ◌≢◌, length, take, drop, ltb, leb, eqb}
 use Rattle.std.proofs.Common.{sym, ap, ◌∙◌, arith, length-append, length-drop, take-append-drop, drop-drop, drop_at, take_at, ltb-false, le-ltb, ne_eqb}
 use Rattle.std.proofs.lemmas.Bool.{eqb-false, lt-leb}
-use Rattle.basis.specs.Cases.{either, clash}
+use Rattle.basis.specs.Cases.{either, clash, of-ok-two, of-ok-three}
 use Rattle.basis.specs.Bytes.{Bytes}
 use Rattle.basis.specs.Lists.{drop-bytes}
-use Rattle.peer_id.specs.declared.Uvarint.{Uvarint}
-use Rattle.peer_id.specs.declared.Uvarint.TheVariants.{Value as Read, Refused as Unread}
 use Rattle.peer_id.specs.Uvarint.{uvarint, read_uvarint}
-use Rattle.peer_id.specs.Laws.{accepted, read-written, uvarint-some, used}
-use Rattle.protobuf.specs.declared.Tag.TheVariants as tag
-use Rattle.protobuf.specs.declared.Part.TheVariants as part
-use Rattle.protobuf.specs.declared.VarintValue.TheVariants as value
-use Rattle.protobuf.specs.declared.Skip.TheVariants as skip
-use Rattle.protobuf.specs.Field.{after, tag_of, read_tag, part_of, read_len, read_varint, skip_fixed}
+use Rattle.peer_id.specs.Laws.{accepted, read-written, uvarint-some}
+use Rattle.protobuf.specs.Field.{located, and_then, tag_of, read_tag, part_of, read_len, read_varint, skip_fixed}
+use Rattle.protobuf.specs.Laws.{varint_moves}
 use Rattle.protobuf.specs.Walk.{between}
+use Rattle.peer_id.specs.declared.VarintError.{VarintError}
+use Rattle.protobuf.specs.declared.WireError.{WireError}
 
 -- ---- a varint at a place, both ways
 -- what is left of s from `at` is the encoding of x, and then what is left from e
@@ -24,7 +21,7 @@ pub record Spells (s : List ℕ) (at x e : ℕ) : Type 0 where
   pub ends : e ≡ at + length (uvarint x)
   pub bound : x < 2 ^ 64
 
-pub spelt : (s : List ℕ) (at x n : ℕ) → Bytes s → Read x n ≡ read_uvarint (drop at s) → Spells s at x (at + n)
+pub spelt : (s : List ℕ) (at x n : ℕ) → Bytes s → Ok (x, n) ≡ read_uvarint (drop at s) → Spells s at x (at + n)
 spelt s at x n b h =
     let t = accepted (drop at s) x n (drop-bytes at s b) (sym h) in
     record {
@@ -34,7 +31,7 @@ spelt s at x n b h =
     }
 
 pub reads-spelt : (s : List ℕ) (at x : ℕ) (rest : List ℕ) → x < 2 ^ 64 → drop at s ≡ uvarint x ++ rest
-    → read_uvarint (drop at s) ≡ Read x (length (uvarint x))
+    → read_uvarint (drop at s) ≡ Ok (x, length (uvarint x))
 reads-spelt s at x rest b h = rw h (read-written x rest b)
 
 -- past a front of what is left
@@ -52,13 +49,12 @@ split s a e h =
     ∙ ap (λ (k : ℕ). drop k s) q)
 
 -- ---- from the walk to the grammar: what each reader found is spelt out
-varint-at : (s : List ℕ) (at x e : ℕ) (r : Uvarint) → Bytes s → r ≡ read_uvarint (drop at s)
-    → value.Value x e ≡ after at value.Refused value.Value r → Spells s at x e
-varint-at s at x e (Read y n) b q h = let ex : x ≡ y = cc in let ee : e ≡ at + n = cc in
-    rw (ex, ee) (spelt s at y n b q)
-varint-at s at x e (Unread why) b q h = clash (cc)
+varint-at : (s : List ℕ) (at x e : ℕ) (r : Result (ℕ × ℕ) VarintError) → Bytes s → r ≡ read_uvarint (drop at s)
+    → Ok (x, e) ≡ located at r → Spells s at x e
+varint-at s at x e (Ok (y, n)) b q h = let k = of-ok-two h in rw (k.0, k.1) (spelt s at y n b q)
+varint-at s at x e (Err why) b q h = clash (cc)
 
-pub varint-spelt : (s : List ℕ) (at x e : ℕ) → Bytes s → value.Value x e ≡ read_varint s at → Spells s at x e
+pub varint-spelt : (s : List ℕ) (at x e : ℕ) → Bytes s → Ok (x, e) ≡ read_varint s at → Spells s at x e
 unfolding read_varint
 varint-spelt s at x e b h = varint-at s at x e (read_uvarint (drop at s)) b refl h
 
@@ -67,21 +63,21 @@ pub record Spanned (s : List ℕ) (at a e : ℕ) : Type 0 where
   pub order : a ≤ e
   pub within : e ≤ length s
 
-part_at : (s : List ℕ) (at a e : ℕ) (r : Uvarint) → Bytes s → r ≡ read_uvarint (drop at s)
-    → part.Bytes a e ≡ after at part.Refused (part_of (length s)) r → Spanned s at a e
-part_at s at a e (Read x n) b q h =
-    either (ltb (length s - (at + n)) x) (λ t. clash (let k = simp t at h in cc))
-    (λ t. let k = simp t at h in
-    let u = used s at x n q in
-    let l : x ≤ length s - (at + n) = ltb-false _ _ t in
-    let ea : a ≡ at + n = cc in let ee : e ≡ at + n + x = cc in
+part_at : (s : List ℕ) (at a e : ℕ) (r : Result (ℕ × ℕ) WireError) → Bytes s → r ≡ read_varint s at
+    → Ok (a, e) ≡ and_then (part_of (length s)) r → Spanned s at a e
+part_at s at a e (Ok (x, to)) b q h =
+    either (ltb (length s - to) x) (λ t. clash (let k = simp t at h in cc))
+    (λ t. let k = of-ok-two (simp t at h) in
+    let u = varint_moves s at x to q in
+    let l : x ≤ length s - to = ltb-false _ _ t in
+    let ea : a ≡ to = k.0 in let ee : e ≡ to + x = k.1 in
     let ex : e - a ≡ x = omega arith in
-    record { size = rw (ex, ea) (spelt s at x n b q); order = omega arith; within = omega arith })
-part_at s at a e (Unread why) b q h = clash (cc)
+    record { size = rw (ex, ea) (varint-spelt s at x to b q); order = omega arith; within = omega arith })
+part_at s at a e (Err why) b q h = clash (cc)
 
-pub part-spelt : (s : List ℕ) (at a e : ℕ) → Bytes s → part.Bytes a e ≡ read_len s at → Spanned s at a e
+pub part-spelt : (s : List ℕ) (at a e : ℕ) → Bytes s → Ok (a, e) ≡ read_len s at → Spanned s at a e
 unfolding read_len
-part-spelt s at a e b h = part_at s at a e (read_uvarint (drop at s)) b refl h
+part-spelt s at a e b h = part_at s at a e (read_varint s at) b refl h
 
 pub record Tagged (s : List ℕ) (at n type e : ℕ) : Type 0 where
   pub least : 1 ≤ n
@@ -89,31 +85,31 @@ pub record Tagged (s : List ℕ) (at n type e : ℕ) : Type 0 where
   pub bits : type < 8
   pub spells : Spells s at (n * 8 + type) e
 
-tag_at : (s : List ℕ) (at n type e : ℕ) (r : Uvarint) → Bytes s → r ≡ read_uvarint (drop at s)
-    → tag.Field n type e ≡ after at tag.Refused (tag_of at) r → Tagged s at n type e
-tag_at s at n type e (Read x m) b q h =
+tag_at : (s : List ℕ) (at n type e : ℕ) (r : Result (ℕ × ℕ) WireError) → Bytes s → r ≡ read_varint s at
+    → Ok (Some (n, type, e)) ≡ and_then (tag_of at) r → Tagged s at n type e
+tag_at s at n type e (Ok (x, to)) b q h =
     either (eqb (x / 8) 0) (λ t. clash (let k = simp t at h in cc))
     (λ t. either (ltb 536870911 (x / 8)) (λ w. clash (let k = simp (t, w) at h in cc))
-    (λ w. let k = simp (t, w) at h in
+    (λ w. let k = of-ok-three (simp (t, w) at h) in
     let nz : x / 8 ≢ 0 = eqb-false (x / 8) 0 t in
     let l : x / 8 ≤ 536870911 = ltb-false _ _ w in
-    let en : n ≡ x / 8 = cc in let et : type ≡ x % 8 = cc in let ee : e ≡ at + m = cc in
+    let en : n ≡ x / 8 = k.0 in let et : type ≡ x % 8 = k.1 in let ee : e ≡ to = k.2 in
     let ex : n * 8 + type ≡ x = omega arith in
-    record { least = omega arith; most = omega arith; bits = omega arith; spells = rw (ex, ee) (spelt s at x m b q) }))
-tag_at s at n type e (Unread why) b q h = clash (cc)
+    record { least = omega arith; most = omega arith; bits = omega arith; spells = rw (ex, ee) (varint-spelt s at x to b q) }))
+tag_at s at n type e (Err why) b q h = clash (cc)
 
-pub tag-spelt : (s : List ℕ) (at n type e : ℕ) → Bytes s → tag.Field n type e ≡ read_tag s at → Tagged s at n type e
+pub tag-spelt : (s : List ℕ) (at n type e : ℕ) → Bytes s → Ok (Some (n, type, e)) ≡ read_tag s at → Tagged s at n type e
 unfolding read_tag
 tag-spelt s at n type e b h =
     either (leb (length s) at) (λ t. clash (let k = simp t at h in cc))
-    (λ t. tag_at s at n type e (read_uvarint (drop at s)) b refl (simp t at h))
+    (λ t. tag_at s at n type e (read_varint s at) b refl (simp t at h))
 
 -- ---- a fixed number of bytes, both ways
 pub record Fixed (s : List ℕ) (at n e : ℕ) : Type 0 where
   pub ends : e ≡ at + n
   pub within : e ≤ length s
 
-pub fixed_at : (s : List ℕ) (at n e : ℕ) → 0 < n → skip.Next e ≡ skip_fixed (length s) at n → Fixed s at n e
+pub fixed_at : (s : List ℕ) (at n e : ℕ) → 0 < n → Ok e ≡ skip_fixed (length s) at n → Fixed s at n e
 unfolding skip_fixed
 fixed_at s at n e z h =
     either (ltb (length s - at) n) (λ t. clash (let k = simp t at h in cc))
@@ -127,7 +123,7 @@ left-fits s at xs rest z h = let e : length s - at ≡ length xs + length rest =
     ∙ length-append xs rest in omega arith
 
 pub fixed_reads : (s : List ℕ) (to : ℕ) (d rest : List ℕ) (k : ℕ) → 0 < k → length d ≡ k → drop to s ≡ d ++ rest
-    → skip_fixed (length s) to k ≡ skip.Next (to + k)
+    → skip_fixed (length s) to k ≡ Ok (to + k)
 unfolding skip_fixed
 fixed_reads s to d rest k z g h = let l = left-fits s to d rest (omega arith) h in let m : k ≤ length s - to =
     omega arith in simp (le-ltb _ _ m)
@@ -143,8 +139,8 @@ fixed_bytes s to d rest k g h =
 -- ---- a tag is read where it stands
 pub tag-reads : (s : List ℕ) (at n type : ℕ) (rest : List ℕ) → 1 ≤ n → n ≤ 536870911 → type < 8
     → drop at s ≡ uvarint (n * 8 + type) ++ rest
-    → read_tag s at ≡ tag.Field n type (at + length (uvarint (n * 8 + type)))
-unfolding read_tag
+    → read_tag s at ≡ Ok (Some (n, type, at + length (uvarint (n * 8 + type))))
+unfolding read_tag read_varint
 tag-reads s at n type rest l m b h =
     let u = uvarint-some (n * 8 + type) in
     let k = left-fits s at (uvarint (n * 8 + type)) rest (omega arith) h in

@@ -1,12 +1,10 @@
 -- The walk of a body: its fields one after the other, up to the end or to what refuses the body. It is written once
 -- over the step, and every submessage's decoder goes along it.
-use Rattle.std.specs.Prelude.{ℕ, zero, suc, ◌+◌, ◌-◌, ◌*◌, List, [], ◌∷◌, Bool, cond, ◌&&◌, length, take, drop, eqb}
+use Rattle.std.specs.Prelude.{Result, Ok, Err, Option, Some, None, ℕ, zero, suc, ◌+◌, ◌-◌, ◌*◌, List, [], ◌∷◌, Bool, cond, ◌&&◌, length, take, drop, eqb}
 use Rattle.basis.specs.declared.Mode.{Mode}
 use Rattle.peer_id.specs.Uvarint.{uvarint}
 use Rattle.protobuf.specs.declared.WireError.{WireError}
 use Rattle.protobuf.specs.declared.Field.{Field}
-use Rattle.protobuf.specs.declared.Step.{Step}
-use Rattle.protobuf.specs.declared.Step.TheVariants as step
 use Rattle.protobuf.specs.Field.{read_field}
 use Rattle.protobuf.specs.Grammar.{Payload, number, eight, bytes, group, four, Entry}
 
@@ -17,10 +15,10 @@ pub data Fields : Type 0 where
   ◌then◌ : Field → Fields → Fields
 
 -- a step, and the walk from the next place
-abbrev pub on_step : (ℕ → Fields) → Step → Fields
-on_step go step.End = end
-on_step go (step.Refused why) = refused why
-on_step go (step.At f) = f then go f.next
+abbrev pub on_step : (ℕ → Fields) → Result (Option Field) WireError → Fields
+on_step go (Ok None) = end
+on_step go (Err why) = refused why
+on_step go (Ok (Some f)) = f then go f.next
 
 -- the first number only bounds the recursion: each field takes a byte, so one more than the bytes left is always enough
 unfoldable pub walk_from : ℕ → Mode → List ℕ → ℕ → Fields

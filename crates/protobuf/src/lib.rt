@@ -4,17 +4,16 @@
 
 pub mod told;
 
-ghost use Rattle.std.specs.Prelude.{◌≡◌, ◌+◌, ◌≤◌, ◌<◌, ◌-◌, ◌%◌, length, drop, get_or, true};
-ghost use Rattle.std.proofs.lemmas.List.Edits.{sets};
+ghost use Rattle.std.specs.Prelude.{◌≡◌, ◌≤◌, ◌<◌, ◌%◌, length, true};
 ghost use Rattle.basis.specs.Writing.{end_in, set_in};
 ghost use Rattle.basis.specs.Unique.{Leaves};
-ghost use Rattle.peer_id.specs.Uvarint.{read_uvarint};
 ghost use Rattle.protobuf.specs.Field.{read_tag, read_len, read_string, read_varint, skip_fixed, skip_field, skip_group, read_value, read_field, walk_step};
 ghost use Rattle.protobuf.specs.Refusal.{spot_of, here, nowhere};
+ghost use Rattle.protobuf.specs.declared.EncodeError.TheVariants.{Room, Refused};
 ghost use Rattle.protobuf.specs.Encode.{tag, varint_field, bytes_field, tag_refused, encoded, left};
 
-use basis::{Mode, Spot, has_room};
-use peer_id::{Uvarint, VarintError, put_uvarint, read_uvarint, uvarint_len};
+use basis::{Mode, ShortRoom, Spot, has_room};
+use peer_id::{VarintError, put_uvarint, read_uvarint, uvarint_len, write_uvarint};
 
 // Wire types: varint, 64-bit, length-delimited, start and end of a group, 32-bit.
 pub const WIRE_VARINT: u8 = 0;
@@ -77,31 +76,24 @@ pub enum WireError {
 #[derive(Clone, Copy)]
 pub struct Refusal {
     pub why: WireError,
-    pub spot: Spot,
+    pub spot: Option<Spot>,
 }
 
 // Where in the slice that was read a refusal stands.
-pub fn spot_of(why: WireError) -> Spot
+pub fn spot_of(why: WireError) -> Option<Spot>
     ensures { result ≡ spot_of why }
 {
     match why {
-        WireError::Varint { error: _, offset } => Spot::at(offset),
-        WireError::FieldOverflow {
-            offset,
-            length: _,
-            remaining: _,
-        } => Spot::at(offset),
-        WireError::UnsupportedWireType {
-            wire_type: _,
-            offset,
-        } => Spot::at(offset),
-        WireError::InvalidFieldNumber { field: _, offset } => Spot::at(offset),
-        WireError::InvalidUtf8 { offset } => Spot::at(offset),
-        WireError::EndGroup => Spot::Nowhere,
-        WireError::GroupDepth => Spot::Nowhere,
-        WireError::GroupOpen => Spot::Nowhere,
-        WireError::TooLarge { len: _ } => Spot::Nowhere,
-        WireError::TooManyRecords { records: _ } => Spot::Nowhere,
+        WireError::Varint { offset, .. }
+        | WireError::FieldOverflow { offset, .. }
+        | WireError::UnsupportedWireType { offset, .. }
+        | WireError::InvalidFieldNumber { offset, .. }
+        | WireError::InvalidUtf8 { offset } => Some(Spot::at(offset)),
+        WireError::EndGroup
+        | WireError::GroupDepth
+        | WireError::GroupOpen
+        | WireError::TooLarge { .. }
+        | WireError::TooManyRecords { .. } => None,
     }
 }
 
@@ -120,41 +112,8 @@ impl Refusal {
     pub fn nowhere(why: WireError) -> Refusal
         ensures { result ≡ nowhere why }
     {
-        Refusal {
-            why,
-            spot: Spot::Nowhere,
-        }
+        Refusal { why, spot: None }
     }
-}
-
-#[derive(Clone, Copy)]
-pub enum Tag {
-    End,
-    Field {
-        field: u64,
-        wire_type: u8,
-        next: usize,
-    },
-    Refused(WireError),
-}
-
-// A part of the input.
-#[derive(Clone, Copy)]
-pub enum Part {
-    Bytes { start: usize, end: usize },
-    Refused(WireError),
-}
-
-#[derive(Clone, Copy)]
-pub enum VarintValue {
-    Value { value: u64, next: usize },
-    Refused(WireError),
-}
-
-#[derive(Clone, Copy)]
-pub enum Skip {
-    Next(usize),
-    Refused(WireError),
 }
 
 // A field that was read. `value` is the varint after the tag, a value (type 0) or a length (type 2), and `start` the place after it: the
@@ -169,133 +128,81 @@ pub struct Field {
     pub next: usize,
 }
 
-#[derive(Clone, Copy)]
-pub enum Step {
-    End,
-    At(Field),
-    Refused(WireError),
-}
-
-// The varint at idx.
-fn uvarint_at(input: &[u8], idx: usize) -> Uvarint
-    ensures { result ≡ read_uvarint (drop idx input.now) }
+// The varint at idx, as the value of a field.
+#[tactic(auto, unfolding(crate::specs::Field::read_varint))]
+pub fn read_varint_value(input: &[u8], idx: usize) -> Result<(u64, usize), WireError>
+    ensures { result ≡ read_varint input.now idx }
 {
-    if input.len() < idx {
-        return Uvarint::Refused(VarintError::BufferTooShort);
+    match read_uvarint(input.get(idx..).unwrap_or_default()) {
+        Ok((value, used)) => Ok((value, idx + used)),
+        Err(error) => Err(WireError::Varint { error, offset: idx }),
     }
-    read_uvarint(&input[idx..])
 }
 
 // The tag at idx, or the end.
-pub fn read_tag(input: &[u8], idx: usize) -> Tag
+#[tactic(auto, unfolding(crate::specs::Field::read_tag))]
+pub fn read_tag(input: &[u8], idx: usize) -> Result<Option<(u64, u8, usize)>, WireError>
     ensures { result ≡ read_tag input.now idx }
 {
     if input.len() <= idx {
-        return Tag::End;
+        return Ok(None);
     }
-    let v = uvarint_at(input, idx);
-    match v {
-        Uvarint::Refused(error) => Tag::Refused(WireError::Varint { error, offset: idx }),
-        Uvarint::Value { value, used } => {
-            let field = value / 8;
-            if field == 0 {
-                return Tag::Refused(WireError::InvalidFieldNumber { field, offset: idx });
-            }
-            if MAX_FIELD_NUMBER < field {
-                return Tag::Refused(WireError::InvalidFieldNumber { field, offset: idx });
-            }
-            Tag::Field {
-                field,
-                wire_type: (value % 8) as u8,
-                next: idx + used,
-            }
-        }
+    let (value, next) = read_varint_value(input, idx)?;
+    let field = value / 8;
+    match field {
+        1..=MAX_FIELD_NUMBER => Ok(Some((field, (value % 8) as u8, next))),
+        _ => Err(WireError::InvalidFieldNumber { field, offset: idx }),
     }
 }
 
 // The length at idx, and the bytes after it.
-pub fn read_len_delimited(input: &[u8], idx: usize) -> Part
+#[tactic(auto, using(crate::specs::Laws::varint_moves), unfolding(crate::specs::Field::read_len))]
+pub fn read_len_delimited(input: &[u8], idx: usize) -> Result<(usize, usize), WireError>
     ensures { result ≡ read_len input.now idx }
 {
-    let v = uvarint_at(input, idx);
-    match v {
-        Uvarint::Refused(error) => Part::Refused(WireError::Varint { error, offset: idx }),
-        Uvarint::Value { value, used } => {
-            let start = idx + used;
-            let remaining = input.len() - start;
-            if (remaining as u64) < value {
-                return Part::Refused(WireError::FieldOverflow {
-                    offset: start,
-                    length: value,
-                    remaining,
-                });
-            }
-            Part::Bytes {
-                start,
-                end: start + value as usize,
-            }
-        }
+    let (length, start) = read_varint_value(input, idx)?;
+    let remaining = input.len() - start;
+    if (remaining as u64) < length {
+        return Err(WireError::FieldOverflow {
+            offset: start,
+            length,
+            remaining,
+        });
     }
+    Ok((start, start + length as usize))
 }
 
 // The same, where the bytes must be UTF-8; a refusal points at the length.
-pub fn read_string(input: &[u8], idx: usize) -> Part
+#[tactic(auto, unfolding(crate::specs::Field::read_string))]
+pub fn read_string(input: &[u8], idx: usize) -> Result<(usize, usize), WireError>
     ensures { result ≡ read_string input.now idx }
 {
-    let p = read_len_delimited(input, idx);
-    match p {
-        Part::Refused(why) => Part::Refused(why),
-        Part::Bytes { start, end } => {
-            if utf8::is_utf8(&input[start..end]) {
-                return Part::Bytes { start, end };
-            }
-            Part::Refused(WireError::InvalidUtf8 { offset: idx })
-        }
+    let (start, end) = read_len_delimited(input, idx)?;
+    if !utf8::is_utf8(&input[start..end]) {
+        return Err(WireError::InvalidUtf8 { offset: idx });
     }
-}
-
-// The varint at idx, as the value of a field.
-pub fn read_varint_value(input: &[u8], idx: usize) -> VarintValue
-    ensures { result ≡ read_varint input.now idx }
-{
-    let v = uvarint_at(input, idx);
-    match v {
-        Uvarint::Refused(error) => VarintValue::Refused(WireError::Varint { error, offset: idx }),
-        Uvarint::Value { value, used } => VarintValue::Value {
-            value,
-            next: idx + used,
-        },
-    }
-}
-
-// How many bytes there are from idx.
-fn remaining_at(input: &[u8], idx: usize) -> usize
-    ensures { result ≡ length input.now - idx }
-{
-    if idx < input.len() {
-        input.len() - idx
-    } else {
-        0
-    }
+    Ok((start, end))
 }
 
 // Past n bytes at idx.
-fn advance(input: &[u8], idx: usize, n: usize) -> Skip
+#[tactic(auto, unfolding(crate::specs::Field::skip_fixed))]
+fn advance(input: &[u8], idx: usize, n: usize) -> Result<usize, WireError>
     ensures { result ≡ skip_fixed (length input.now) idx n }
 {
-    let remaining = remaining_at(input, idx);
+    let remaining = input.len().saturating_sub(idx);
     if remaining < n {
-        return Skip::Refused(WireError::FieldOverflow {
+        return Err(WireError::FieldOverflow {
             offset: idx,
             length: n as u64,
             remaining,
         });
     }
-    Skip::Next(idx + n)
+    Ok(idx + n)
 }
 
 // Past the value of a field whose tag ends at idx, where so many groups more may open.
 #[cycle(skip_field_skip_group)]
+#[tactic(auto, unfolding(crate::specs::Field::skip_field, crate::specs::Field::passed, crate::specs::Field::skip_value))]
 pub fn skip_field(
     mode: Mode,
     levels: u8,
@@ -303,177 +210,111 @@ pub fn skip_field(
     idx: usize,
     field: u64,
     wire_type: u8,
-) -> Skip
+) -> Result<usize, WireError>
     ensures { result ≡ skip_field mode levels input.now idx field wire_type }
 {
-    if wire_type == WIRE_VARINT {
-        let v = read_varint_value(input, idx);
-        return match v {
-            VarintValue::Refused(why) => Skip::Refused(why),
-            VarintValue::Value { value: _, next } => Skip::Next(next),
-        };
-    }
-    if wire_type == WIRE_LEN {
-        let p = read_len_delimited(input, idx);
-        return match p {
-            Part::Refused(why) => Skip::Refused(why),
-            Part::Bytes { start: _, end } => Skip::Next(end),
-        };
-    }
-    if wire_type == WIRE_I32 {
-        return advance(input, idx, 4);
-    }
-    if wire_type == WIRE_I64 {
-        return advance(input, idx, 8);
-    }
-    if let Mode::Groups = mode {
-        if wire_type == WIRE_START_GROUP {
+    match (mode, wire_type) {
+        (_, WIRE_VARINT) => Ok(read_varint_value(input, idx)?.1),
+        (_, WIRE_LEN) => Ok(read_len_delimited(input, idx)?.1),
+        (_, WIRE_I32) => advance(input, idx, 4),
+        (_, WIRE_I64) => advance(input, idx, 8),
+        (Mode::Groups, WIRE_START_GROUP) => {
             if levels == 0 {
-                return Skip::Refused(WireError::GroupDepth);
+                return Err(WireError::GroupDepth);
             }
-            return skip_group(levels - 1, input, idx, field);
+            skip_group(levels - 1, input, idx, field)
         }
-        if wire_type == WIRE_END_GROUP {
-            return Skip::Refused(WireError::EndGroup);
-        }
+        (Mode::Groups, WIRE_END_GROUP) => Err(WireError::EndGroup),
+        _ => Err(WireError::UnsupportedWireType {
+            wire_type,
+            offset: idx,
+        }),
     }
-    Skip::Refused(WireError::UnsupportedWireType {
-        wire_type,
-        offset: idx,
-    })
 }
 
 // Past the fields of a group, from idx, and its end tag, which has the group's number. The fields are gone along in a loop: only a group in the
 // group is a call.
 #[cycle(skip_field_skip_group)]
-fn skip_group(levels: u8, input: &[u8], idx: usize, field: u64) -> Skip
+fn skip_group(levels: u8, input: &[u8], idx: usize, field: u64) -> Result<usize, WireError>
     ensures { result ≡ skip_group levels input.now idx field }
 {
     let mut at = idx;
-    while at < input.len() {
-        let t = read_tag(input, at);
-        match t {
-            Tag::End => {
-                return Skip::Refused(WireError::GroupOpen);
-            }
-            Tag::Refused(why) => {
-                return Skip::Refused(why);
-            }
-            Tag::Field {
-                field: number,
-                wire_type,
-                next,
-            } => {
-                if wire_type == WIRE_END_GROUP {
-                    if number == field {
-                        return Skip::Next(next);
-                    }
-                    return Skip::Refused(WireError::EndGroup);
-                }
-                let k = skip_field(Mode::Groups, levels, input, next, number, wire_type);
-                match k {
-                    Skip::Refused(why) => {
-                        return Skip::Refused(why);
-                    }
-                    Skip::Next(end) => {
-                        at = end;
-                    }
-                }
-            }
+    while let Some((number, wire_type, next)) = read_tag(input, at)? {
+        if wire_type == WIRE_END_GROUP {
+            return if number == field {
+                Ok(next)
+            } else {
+                Err(WireError::EndGroup)
+            };
         }
+        at = skip_field(Mode::Groups, levels, input, next, number, wire_type)?;
     }
-    Skip::Refused(WireError::GroupOpen)
+    Err(WireError::GroupOpen)
 }
 
 // The value of a field whose tag ends at tag_end.
-fn read_value(mode: Mode, input: &[u8], field: u64, wire_type: u8, tag_end: usize) -> Step
+#[tactic(auto, unfolding(crate::specs::Field::read_value))]
+fn read_value(
+    mode: Mode,
+    input: &[u8],
+    field: u64,
+    wire_type: u8,
+    tag_end: usize,
+) -> Result<Option<Field>, WireError>
     ensures { result ≡ read_value mode input.now field wire_type tag_end }
 {
-    if wire_type == WIRE_VARINT {
-        let v = read_varint_value(input, tag_end);
-        return match v {
-            VarintValue::Refused(why) => Step::Refused(why),
-            VarintValue::Value { value, next } => Step::At(Field {
-                field,
-                wire_type,
-                tag_end,
-                value,
-                start: next,
-                next,
-            }),
-        };
-    }
-    if wire_type == WIRE_LEN {
-        let p = read_len_delimited(input, tag_end);
-        return match p {
-            Part::Refused(why) => Step::Refused(why),
-            Part::Bytes { start, end } => Step::At(Field {
-                field,
-                wire_type,
-                tag_end,
-                value: (end - start) as u64,
-                start,
-                next: end,
-            }),
-        };
-    }
-    let k = skip_field(mode, MAX_GROUPS, input, tag_end, field, wire_type);
-    match k {
-        Skip::Refused(why) => Step::Refused(why),
-        Skip::Next(next) => Step::At(Field {
-            field,
-            wire_type,
+    let (value, start, next) = match wire_type {
+        WIRE_VARINT => {
+            let (value, next) = read_varint_value(input, tag_end)?;
+            (value, next, next)
+        }
+        WIRE_LEN => {
+            let (start, end) = read_len_delimited(input, tag_end)?;
+            ((end - start) as u64, start, end)
+        }
+        _ => (
+            0,
             tag_end,
-            value: 0,
-            start: tag_end,
-            next,
-        }),
-    }
+            skip_field(mode, MAX_GROUPS, input, tag_end, field, wire_type)?,
+        ),
+    };
+    Ok(Some(Field {
+        field,
+        wire_type,
+        tag_end,
+        value,
+        start,
+        next,
+    }))
 }
 
-// The field at idx, its tag and its value, however long they are.
-fn read_long_field(input: &[u8], idx: usize, mode: Mode) -> Step
-    ensures { result ≡ read_field mode input.now idx }
+// Whether a tag and what follows it, a length or a value, are a byte each, and the tag is of this wire type.
+fn is_short(wire_type: u8, t: u8, b: u8) -> bool
+    ensures { result ≡ true → (t % 8 ≡ wire_type) × (8 ≤ t) × (t < 128) × (b < 128) }
 {
-    let t = read_tag(input, idx);
-    match t {
-        Tag::End => Step::End,
-        Tag::Refused(why) => Step::Refused(why),
-        Tag::Field {
-            field,
-            wire_type,
-            next,
-        } => read_value(mode, input, field, wire_type, next),
-    }
+    t % 8 == wire_type && 8 <= t && t < 128 && b < 128
 }
 
 // Whether a tag is a byte, of a length-delimited field, and its length two bytes.
 fn is_middle(t: u8, b: u8, h: u8) -> bool
     ensures { result ≡ true → (t % 8 ≡ 2) × (8 ≤ t) × (t < 128) × (128 ≤ b) × (1 ≤ h) × (h < 128) }
 {
-    if t % 8 != WIRE_LEN {
-        return false;
-    }
-    if t < 8 {
-        return false;
-    }
-    if 128 <= t {
-        return false;
-    }
-    if b < 128 {
-        return false;
-    }
-    if h == 0 {
-        return false;
-    }
-    if 128 <= h {
-        return false;
-    }
-    true
+    t % 8 == WIRE_LEN && 8 <= t && t < 128 && 128 <= b && 1 <= h && h < 128
+}
+
+// The field at idx, its tag and its value, however long they are.
+#[tactic(auto, unfolding(crate::specs::Field::read_field))]
+fn read_long_field(input: &[u8], idx: usize, mode: Mode) -> Result<Option<Field>, WireError>
+    ensures { result ≡ read_field mode input.now idx }
+{
+    let Some((field, wire_type, tag_end)) = read_tag(input, idx)? else {
+        return Ok(None);
+    };
+    read_value(mode, input, field, wire_type, tag_end)
 }
 
 // The same; a number whose tag and value are a byte each, and a length of two bytes, are read without a call.
-fn read_any_field(input: &[u8], idx: usize, mode: Mode) -> Step
+fn read_any_field(input: &[u8], idx: usize, mode: Mode) -> Result<Option<Field>, WireError>
     requires { idx < length input.now }
     ensures { result ≡ read_field mode input.now idx }
 {
@@ -481,84 +322,59 @@ fn read_any_field(input: &[u8], idx: usize, mode: Mode) -> Step
     if tag_end < input.len() {
         let t = input[idx];
         let b = input[tag_end];
+        let second = tag_end + 1;
         if is_short(WIRE_VARINT, t, b) {
-            let end = tag_end + 1;
-            return Step::At(Field {
+            return Ok(Some(Field {
                 field: (t / 8) as u64,
                 wire_type: WIRE_VARINT,
                 tag_end,
                 value: b as u64,
-                start: end,
-                next: end,
-            });
+                start: second,
+                next: second,
+            }));
         }
-        let second = tag_end + 1;
-        if second < input.len() {
-            let h = input[second];
-            if is_middle(t, b, h) {
-                let start = second + 1;
-                let len = (b % 128) as usize + 128 * h as usize;
-                if len <= input.len() - start {
-                    return Step::At(Field {
-                        field: (t / 8) as u64,
-                        wire_type: WIRE_LEN,
-                        tag_end,
-                        value: len as u64,
-                        start,
-                        next: start + len,
-                    });
-                }
+        if second < input.len() && is_middle(t, b, input[second]) {
+            let start = second + 1;
+            let len = (b % 128) as usize + 128 * input[second] as usize;
+            if len <= input.len() - start {
+                return Ok(Some(Field {
+                    field: (t / 8) as u64,
+                    wire_type: WIRE_LEN,
+                    tag_end,
+                    value: len as u64,
+                    start,
+                    next: start + len,
+                }));
             }
         }
     }
     read_long_field(input, idx, mode)
 }
 
-// Whether a tag and what follows it, a length or a value, are a byte each, and the tag is of this wire type.
-fn is_short(wire_type: u8, t: u8, b: u8) -> bool
-    ensures { result ≡ true → (t % 8 ≡ wire_type) × (8 ≤ t) × (t < 128) × (b < 128) }
-{
-    if t % 8 != wire_type {
-        return false;
-    }
-    if t < 8 {
-        return false;
-    }
-    if 128 <= t {
-        return false;
-    }
-    if 128 <= b {
-        return false;
-    }
-    true
-}
-
 // The field at idx, its tag and its value: the step that every decoder of a submessage takes. A length-delimited field whose tag and length are a byte each is
 // read without a call.
-pub fn read_field(mode: Mode, input: &[u8], idx: usize) -> Step
+#[inline(always)]
+pub fn read_field(mode: Mode, input: &[u8], idx: usize) -> Result<Option<Field>, WireError>
     ensures { result ≡ read_field mode input.now idx }
 {
     if input.len() <= idx {
-        return Step::End;
+        return Ok(None);
     }
     let tag_end = idx + 1;
-    if input.len() <= tag_end {
-        return read_any_field(input, idx, mode);
-    }
-    let t = input[idx];
-    let l = input[tag_end];
-    let start = tag_end + 1;
-    let len = l as usize;
-    if is_short(WIRE_LEN, t, l) {
-        if len <= input.len() - start {
-            return Step::At(Field {
+    if tag_end < input.len() {
+        let t = input[idx];
+        let l = input[tag_end];
+        let start = tag_end + 1;
+        let len = l as usize;
+        if is_short(WIRE_LEN, t, l) && len <= input.len() - start {
+            return Ok(Some(Field {
                 field: (t / 8) as u64,
                 wire_type: WIRE_LEN,
                 tag_end,
                 value: l as u64,
                 start,
                 next: start + len,
-            });
+            }));
         }
     }
     read_any_field(input, idx, mode)
@@ -570,174 +386,128 @@ pub struct Cursor {
     pub at: usize,
 }
 
-// What a step of the walk finds: a field with the place after its tag and the next place, or the end, or why the body is refused.
+// A field that the host's walk finds, with the place after its tag and the next place.
 #[derive(Clone, Copy)]
-pub enum Walk {
-    End,
-    Field {
-        field: u64,
-        wire_type: u8,
-        tag_end: usize,
-        next: Cursor,
-    },
-    Refused(Refusal),
+pub struct Walked {
+    pub field: u64,
+    pub wire_type: u8,
+    pub tag_end: usize,
+    pub next: Cursor,
 }
 
 impl Cursor {
     // The field at the cursor, as read_tag and skip_field give it.
-    pub fn step(self, mode: Mode, body: &[u8]) -> Walk
+    #[tactic(auto, unfolding(crate::specs::Field::walk_step))]
+    pub fn step(self, mode: Mode, body: &[u8]) -> Result<Option<Walked>, Refusal>
         ensures { result ≡ walk_step mode body.now self.at }
     {
-        let at = self.at;
         if MAX_RPC_SIZE < body.len() {
-            return Walk::Refused(Refusal::nowhere(WireError::TooLarge { len: body.len() }));
+            return Err(Refusal::nowhere(WireError::TooLarge { len: body.len() }));
         }
-        let t = read_tag(body, at);
-        match t {
-            Tag::End => Walk::End,
-            Tag::Refused(why) => Walk::Refused(Refusal::here(why)),
-            Tag::Field {
-                field,
-                wire_type,
-                next,
-            } => {
-                let k = skip_field(mode, MAX_GROUPS, body, next, field, wire_type);
-                match k {
-                    Skip::Refused(why) => Walk::Refused(Refusal::here(why)),
-                    Skip::Next(end) => Walk::Field {
-                        field,
-                        wire_type,
-                        tag_end: next,
-                        next: Cursor { at: end },
-                    },
-                }
-            }
-        }
+        let Some((field, wire_type, tag_end)) = read_tag(body, self.at).map_err(Refusal::here)?
+        else {
+            return Ok(None);
+        };
+        let skipped = skip_field(mode, MAX_GROUPS, body, tag_end, field, wire_type);
+        let at = skipped.map_err(Refusal::here)?;
+        Ok(Some(Walked {
+            field,
+            wire_type,
+            tag_end,
+            next: Cursor { at },
+        }))
     }
 }
 
-// What a writer of a field did: as `Written`, or it refused a field number or a wire type that no tag can have.
+// Why a writer of a field wrote nothing: so many bytes do not fit (refusal 12), or no tag can have the field number or the wire type.
 #[derive(Clone, Copy)]
-pub enum Encoded {
-    Bytes(usize),
+pub enum EncodeError {
     Room(usize),
     Refused(Refusal),
 }
 
-// Whether a body is taken, or a tag can be written.
-#[derive(Clone, Copy)]
-pub enum Checked {
-    Fine,
-    Refused(Refusal),
+impl From<Refusal> for EncodeError {
+    ghost from_gives = { λ r e. e ≡ Refused r };
+
+    fn from(refusal: Refusal) -> EncodeError {
+        EncodeError::Refused(refusal)
+    }
+}
+
+impl From<ShortRoom> for EncodeError {
+    ghost from_gives = { λ r e. e ≡ Room r.needed };
+
+    fn from(short: ShortRoom) -> EncodeError {
+        EncodeError::Room(short.needed)
+    }
 }
 
 // A tag has a field number from 1 to 2^29 - 1 and three bits of wire type.
-fn check_tag(field: u64, wire_type: u8) -> Checked
+#[tactic(auto, unfolding(crate::specs::Encode::tag_refused))]
+fn check_tag(field: u64, wire_type: u8) -> Result<(), Refusal>
     ensures { result ≡ tag_refused field wire_type }
 {
-    if field == 0 {
-        return Checked::Refused(Refusal::nowhere(WireError::InvalidFieldNumber {
-            field,
-            offset: 0,
-        }));
-    }
-    if MAX_FIELD_NUMBER < field {
-        return Checked::Refused(Refusal::nowhere(WireError::InvalidFieldNumber {
-            field,
-            offset: 0,
-        }));
-    }
-    if 7 < wire_type {
-        return Checked::Refused(Refusal::nowhere(WireError::UnsupportedWireType {
+    match (field, wire_type) {
+        (1..=MAX_FIELD_NUMBER, 0..=7) => Ok(()),
+        (1..=MAX_FIELD_NUMBER, _) => Err(Refusal::nowhere(WireError::UnsupportedWireType {
             wire_type,
             offset: 0,
-        }));
+        })),
+        _ => Err(Refusal::nowhere(WireError::InvalidFieldNumber { field, offset: 0 })),
     }
-    Checked::Fine
 }
 
 // Writes a tag at the front of out.
-pub fn write_tag(out: &mut [u8], field: u64, wire_type: u8) -> Encoded
+#[tactic(auto, unfolding(crate::specs::Encode::tag, crate::specs::Encode::encoded, crate::specs::Encode::left))]
+pub fn write_tag(out: &mut [u8], field: u64, wire_type: u8) -> Result<usize, EncodeError>
     ensures { Leaves (encoded field wire_type (tag field wire_type) out.old)
         (left field wire_type (tag field wire_type) out.old) result out.new }
 {
-    let checked = check_tag(field, wire_type);
-    match checked {
-        Checked::Refused(why) => Encoded::Refused(why),
-        Checked::Fine => {
-            let value = field * 8 + wire_type as u64;
-            let len = uvarint_len(value);
-            if out.len() < len {
-                return Encoded::Room(len);
-            }
-            let end = put_uvarint(value, out, 0);
-            Encoded::Bytes(end)
-        }
-    }
+    check_tag(field, wire_type)?;
+    Ok(write_uvarint(field * 8 + wire_type as u64, out)?)
 }
 
 // Writes a field that holds a varint at the front of out.
-pub fn encode_varint_field(out: &mut [u8], field: u64, value: u64) -> Encoded
+#[tactic(auto, unfolding(crate::specs::Encode::tag, crate::specs::Encode::encoded, crate::specs::Encode::left))]
+pub fn encode_varint_field(out: &mut [u8], field: u64, value: u64) -> Result<usize, EncodeError>
     ensures { Leaves (encoded field 0 (varint_field field value) out.old)
         (left field 0 (varint_field field value) out.old) result out.new }
 {
-    let checked = check_tag(field, WIRE_VARINT);
-    match checked {
-        Checked::Refused(why) => Encoded::Refused(why),
-        Checked::Fine => {
-            let total = uvarint_len(field * 8) + uvarint_len(value);
-            if out.len() < total {
-                return Encoded::Room(total);
-            }
-            let i = put_uvarint(field * 8, out, 0);
-            let end = put_uvarint(value, out, i);
-            Encoded::Bytes(end)
-        }
+    check_tag(field, WIRE_VARINT)?;
+    let total = uvarint_len(field * 8) + uvarint_len(value);
+    if out.len() < total {
+        return Err(EncodeError::Room(total));
     }
-}
-
-// Copies bytes to out from `at`, where they fit.
-fn copy_to(out: &mut [u8], at: usize, data: &[u8]) -> usize
-    requires { at + length «data».now ≤ length out.old }
-    ensures value { result ≡ at + length «data».now }
-    ensures out_after { out.new ≡ sets out.old at «data».now }
-{
-    let mut j = 0;
-    while j < data.len() {
-        out[at + j] = data[j];
-        j = j + 1;
-    }
-    at + data.len()
+    let i = put_uvarint(field * 8, out, 0);
+    Ok(put_uvarint(value, out, i))
 }
 
 // Writes bytes at `at` and says where they end; where they do not fit, it writes nothing and says `at`.
+#[tactic(auto, unfolding(basis::specs::Writing::end_in, basis::specs::Writing::set_in))]
 pub fn put_bytes(out: &mut [u8], at: usize, data: &[u8]) -> usize
     ensures { Leaves (end_in (length «data».now) at «data».now out.old)
         (set_in (length «data».now) at «data».now out.old) result out.new }
 {
-    if has_room(out.len(), at, data.len()) {
-        return copy_to(out, at, data);
+    if !has_room(out.len(), at, data.len()) {
+        return at;
     }
-    at
+    let end = at + data.len();
+    out[at..end].copy_from_slice(data);
+    end
 }
 
 // Writes a field that holds bytes at the front of out: a string, or a submessage that is written already.
-pub fn encode_bytes_field(out: &mut [u8], field: u64, data: &[u8]) -> Encoded
+#[tactic(auto, unfolding(crate::specs::Encode::tag, crate::specs::Encode::encoded, crate::specs::Encode::left))]
+pub fn encode_bytes_field(out: &mut [u8], field: u64, data: &[u8]) -> Result<usize, EncodeError>
     ensures { Leaves (encoded field 2 (bytes_field field «data».now) out.old)
         (left field 2 (bytes_field field «data».now) out.old) result out.new }
 {
-    let checked = check_tag(field, WIRE_LEN);
-    match checked {
-        Checked::Refused(why) => Encoded::Refused(why),
-        Checked::Fine => {
-            let total = uvarint_len(field * 8 + 2) + uvarint_len(data.len() as u64) + data.len();
-            if out.len() < total {
-                return Encoded::Room(total);
-            }
-            let i = put_uvarint(field * 8 + 2, out, 0);
-            let j = put_uvarint(data.len() as u64, out, i);
-            let end = put_bytes(out, j, data);
-            Encoded::Bytes(end)
-        }
+    check_tag(field, WIRE_LEN)?;
+    let total = uvarint_len(field * 8 + 2) + uvarint_len(data.len() as u64) + data.len();
+    if out.len() < total {
+        return Err(EncodeError::Room(total));
     }
+    let i = put_uvarint(field * 8 + 2, out, 0);
+    let j = put_uvarint(data.len() as u64, out, i);
+    Ok(put_bytes(out, j, data))
 }

@@ -2,7 +2,7 @@
 ghost use Rattle.std.specs.Prelude.{◌≡◌};
 ghost use Rattle.protobuf.specs.Told.{wire_told, refusal_told, encoded_told, walk_told};
 
-use super::{Encoded, Refusal, Walk, WireError};
+use super::{EncodeError, Refusal, Walked, WireError};
 use basis::{Told, refusals};
 use peer_id::told::told_varint;
 
@@ -10,7 +10,7 @@ pub fn told_wire(why: WireError) -> Told
     ensures { result ≡ wire_told why }
 {
     match why {
-        WireError::Varint { error, offset: _ } => told_varint(error),
+        WireError::Varint { error, .. } => told_varint(error),
         WireError::FieldOverflow {
             offset,
             length,
@@ -47,32 +47,34 @@ pub fn told_wire(why: WireError) -> Told
 pub fn told_refusal(refusal: Refusal) -> Told
     ensures { result ≡ refusal_told refusal }
 {
-    let why = refusal.why;
-    let spot = refusal.spot;
-    told_wire(why).placed(spot)
+    told_wire(refusal.why).placed(refusal.spot)
 }
 
-pub fn told_encoded(answer: Encoded) -> Told
+pub fn told_encoded(answer: Result<usize, EncodeError>) -> Told
     ensures { result ≡ encoded_told answer }
 {
     match answer {
-        Encoded::Bytes(count) => Told::one(0, count as u64),
-        Encoded::Room(needed) => Told::one(refusals::SHORT_ROOM, needed as u64),
-        Encoded::Refused(refusal) => told_refusal(refusal),
+        Ok(count) => Told::one(0, count as u64),
+        Err(EncodeError::Room(needed)) => Told::one(refusals::SHORT_ROOM, needed as u64),
+        Err(EncodeError::Refused(refusal)) => told_refusal(refusal),
     }
 }
 
-pub fn told_walk(answer: Walk) -> Told
+pub fn told_walk(answer: Result<Option<Walked>, Refusal>) -> Told
     ensures { result ≡ walk_told answer }
 {
     match answer {
-        Walk::End => Told::one(0, 0),
-        Walk::Field {
-            field,
-            wire_type,
-            tag_end,
-            next,
-        } => Told::four(0, field, wire_type as u64, tag_end as u64, next.at as u64),
-        Walk::Refused(refusal) => told_refusal(refusal),
+        Ok(None) => Told::one(0, 0),
+        Ok(
+            Some(
+                Walked {
+                    field,
+                    wire_type,
+                    tag_end,
+                    next,
+                },
+            ),
+        ) => Told::four(0, field, wire_type as u64, tag_end as u64, next.at as u64),
+        Err(refusal) => told_refusal(refusal),
     }
 }

@@ -6,7 +6,7 @@ ghost use Rattle.std.specs.Prelude.{◌≡◌};
 ghost use Rattle.protobuf.specs.Field.{walk_step};
 
 use basis::Mode;
-use protobuf::{Cursor, Walk};
+use protobuf::{Cursor, Refusal, Walked};
 
 #[derive(Clone, Copy)]
 pub struct Reader<'a> {
@@ -24,7 +24,7 @@ impl<'a> Reader<'a> {
     }
 
     // The field at the reader's place.
-    pub fn step(self) -> Walk
+    pub fn step(self) -> Result<Option<Walked>, Refusal>
         ensures { result ≡ walk_step self.entry.mode self.entry.body.now self.entry.at }
     {
         Cursor { at: self.at }.step(self.mode, self.body)
@@ -35,15 +35,14 @@ impl<'a> Reader<'a> {
         ensures { result ≡ record { body = self.entry.body; at = next.at; mode = self.entry.mode } }
     {
         Reader {
-            body: self.body,
             at: next.at,
-            mode: self.mode,
+            ..self
         }
     }
 }
 
 // The field at a place of a body, for callers that hold no reader.
-pub fn walk(mode: Mode, body: &[u8], at: usize) -> Walk
+pub fn walk(mode: Mode, body: &[u8], at: usize) -> Result<Option<Walked>, Refusal>
     ensures { result ≡ walk_step mode body.now at }
 {
     Reader { body, at, mode }.step()

@@ -1,7 +1,6 @@
--- Laws of ids: the test for equal bytes is exact, the order is a strict total order, and one step of each walk over
--- bytes and over ids.
-use Rattle.std.specs.Prelude.{ℕ, zero, suc, ◌+◌, ◌-◌, ◌≤◌, ◌<◌, ◌≡◌, refl, List, [], ◌∷◌, ◌++◌, Bool, true, false, cond, not, ◌&&◌, ◌||◌, length, take, drop, get_or, eqb, ltb}
-use Rattle.std.proofs.Common.{sym, ap, ap₂, subst, ◌∙◌, arith, zero-lt-suc, add-one, eqb-true, eq-eqb, ne_eqb, lt-ltb, le-ltb, ltb-true, ltb-false}
+-- Laws of ids: the test for equal bytes is exact, the order is a strict total order, and one step of each walk over ids.
+use Rattle.std.specs.Prelude.{ℕ, zero, suc, ◌≤◌, ◌<◌, ◌≡◌, refl, List, [], ◌∷◌, ◌++◌, Bool, true, false, cond, not, ◌&&◌, ◌||◌, length, min, take, drop, get_or, eqb, ltb}
+use Rattle.std.proofs.Common.{sym, ap, ap₂, subst, ◌∙◌, arith, zero-lt-suc, eqb-true, eq-eqb, ne_eqb, lt-ltb, le-ltb, ltb-true, ltb-false}
 use Rattle.std.proofs.Math.Bool.{or-true, or_assoc, and-false}
 use Rattle.std.proofs.Math.ListN.{drop_of_length-le}
 use Rattle.std.proofs.Math.Seq.{drop-cons}
@@ -32,64 +31,28 @@ same_length [] (y ∷ ys) h = refl
 same_length (x ∷ xs) [] h = refl
 same_length (x ∷ xs) (y ∷ ys) h = rw (same_length xs ys (λ e. h (ap suc e))) (and-false (eqb x y))
 
--- one byte further
-same_step : (a b : List ℕ) (i : ℕ) → i < length a → i < length b
-    → same_bytes (drop i a) (drop i b) ≡ (eqb (get_or a i 0) (get_or b i 0) && same_bytes (drop (i + 1) a) (drop (i + 1) b))
-unfolding same_bytes
-same_step a b i h k = rw (add-one i, drop-cons a i 0 h, drop-cons b i 0 k)
-
--- the bytes from i on are the same
-pub same_from : (a b : List ℕ) (i : ℕ) → length a ≤ i → length b ≤ i → same_bytes (drop i a) (drop i b) ≡ true
-unfolding same_bytes
-same_from a b i h k = rw (drop_of_length-le a h, drop_of_length-le b k)
-
--- and so are those from the byte before
-pub same_more : (a b : List ℕ) (i : ℕ) → 0 < i → i ≤ length a → length a ≡ length b
-    → same_bytes (drop i a) (drop i b) ≡ true → get_or a (i - 1) 0 ≡ get_or b (i - 1) 0
-    → same_bytes (drop (i - 1) a) (drop (i - 1) b) ≡ true
-same_more a b i h k l r e =
-    let n : (i - 1) + 1 ≡ i = omega arith in
-    let q : same_bytes (drop ((i - 1) + 1) a) (drop ((i - 1) + 1) b) ≡ true = rw n r in
-    same_step a b (i - 1) (omega arith) (omega arith) ∙ simp (eq-eqb (get_or a (i - 1) 0) (get_or b (i - 1) 0) e) q
-
-pub same-all : (a b : List ℕ) (i : ℕ) → i ≤ 0 → same_bytes (drop i a) (drop i b) ≡ true → true ≡ same_bytes a b
-same-all a b i h r = let z : i ≡ 0 = omega arith in sym (rw z at r)
-
 -- a byte differs
 pub same_not : (a b : List ℕ) (i : ℕ) → (get_or a i 0 ≡ get_or b i 0 → ⊥) → false ≡ same_bytes a b
 same_not a b i n =
     either (same_bytes a b) (λ t. absurd (n (ap (λ (l : List ℕ). get_or l i 0) (same_equal a b t)))) (λ t. sym t)
 
 -- ---- byte order
-precedes_step : (a b : List ℕ) (i : ℕ) → i < length a → i < length b
-    → precedes_bytes (drop i a) (drop i b) ≡ cond (eqb (get_or a i 0) (get_or b i 0))
-    (precedes_bytes (drop (i + 1) a) (drop (i + 1) b)) (ltb (get_or a i 0) (get_or b i 0))
-unfolding precedes_bytes
-precedes_step a b i h k = rw (add-one i, drop-cons a i 0 h, drop-cons b i 0 k)
-
 precedes_nil : (a : List ℕ) → precedes_bytes a [] ≡ false
 unfolding precedes_bytes
 precedes_nil [] = refl
 precedes_nil (x ∷ xs) = refl
 
-module _ (a b : List ℕ) (i : ℕ) (inv : precedes_bytes (drop i a) (drop i b) ≡ precedes_bytes a b) where
-  pub order-more : i < length a → i < length b → get_or a i 0 ≡ get_or b i 0
-      → precedes_bytes (drop (i + 1) a) (drop (i + 1) b) ≡ precedes_bytes a b
-  order-more h k e = sym (simp (eq-eqb (get_or a i 0) (get_or b i 0) e) at (precedes_step a b i h k)) ∙ inv
-
-  pub order-here : i < length a → i < length b → (get_or a i 0 ≡ get_or b i 0 → ⊥)
-      → ltb (get_or a i 0) (get_or b i 0) ≡ precedes_bytes a b
-  order-here h k e = sym (simp (ne_eqb (get_or a i 0) (get_or b i 0) e) at (precedes_step a b i h k)) ∙ inv
-
-  pub order-short : length b ≤ i → false ≡ precedes_bytes a b
-  order-short h = sym (precedes_nil (drop i a)) ∙ (rw (drop_of_length-le b h) at inv)
-
-  pub order-prefix : length a ≤ i → ltb i (length b) ≡ precedes_bytes a b
-  unfolding precedes_bytes
-  order-prefix h =
-      either (ltb i (length b))
-      (λ t. t ∙ (rw (drop_of_length-le a h, drop-cons b i 0 (ltb-true i (length b) t)) at inv))
-      (λ t. t ∙ (rw (drop_of_length-le a h, drop_of_length-le b (ltb-false i (length b) t)) at inv))
+-- where one has ended, their lengths decide
+pub order_end : (a b : List ℕ) (i : ℕ) → precedes_bytes (drop i a) (drop i b) ≡ precedes_bytes a b
+    → i ≡ min (length a) (length b) → ltb (length a) (length b) ≡ precedes_bytes a b
+unfolding precedes_bytes
+order_end a b i inv e =
+    either (ltb (length a) (length b))
+    (λ t. let h = ltb-true (length a) (length b) t in
+    let k : i < length b = omega arith in
+    t ∙ (rw (drop_of_length-le a {i = i} (omega arith), drop-cons b i 0 k) at inv))
+    (λ t. let h = ltb-false (length a) (length b) t in
+    t ∙ sym (precedes_nil (drop i a)) ∙ (rw (drop_of_length-le b {i = i} (omega arith)) at inv))
 
 pub order_irreflexive : (a : List ℕ) → precedes_bytes a a ≡ false
 unfolding precedes_bytes

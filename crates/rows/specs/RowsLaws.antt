@@ -2,7 +2,7 @@
 use Prim.Native.Nat.{ℕ, zero, suc, ◌+◌, ◌-◌, ◌≤◌, ◌<◌}
 use Rattle.std.specs.Prelude.{◌≡◌, refl, List, [], ◌∷◌, ◌++◌, map, ◌⊎◌, drop, get_or, ltb}
 use Rattle.std.proofs.Math.Path.{sym, ap}
-use Rattle.std.proofs.Common.{◌∙◌, inl, inr, ⊎_elim, arith, le_of_suc-le-suc, not-suc-le-zero, zero-lt-suc, zero-add, suc-add, add-one, length-append, drop_of_length-le, ltb-true, ltb-false, lt-ltb, le-ltb}
+use Rattle.std.proofs.Common.{◌∙◌, inl, inr, ⊎_elim, arith, le_of_suc-le-suc, not-suc-le-zero, zero-lt-suc, zero-add, suc-add, add-one, length-append, drop_of_length-le, ltb-true, ltb-false}
 use Rattle.std.proofs.Math.Nat.{sub-zero}
 use Rattle.std.proofs.Math.ListN.{length}
 use Rattle.std.proofs.Math.Seq.{drop-cons}
@@ -124,19 +124,13 @@ module _ {A : Type 0} (f : ℕ → A) (ring : Ring) where
       ∙ ap (λ l. l ++ (g (place_of ring ring.count) ∷ [])) (tab_ext (λ (i : ℕ). g (place_of ring i))
       (λ (i : ℕ). f (place_of ring i)) ring.count same))
 
+-- what a walk over the rows, the oldest first, takes
+pub ruleset walked = (ring_from, ring_end, length_ring)
+
 pub map_ring : {A B : Type 0} (g : A → B) (f : ℕ → A) (ring : Ring)
     → map g (rows_in f ring) ≡ rows_in (λ (p : ℕ). g (f p)) ring
 unfolding rows_in
 map_ring g f ring = map-tab g (λ (i : ℕ). f (place_of ring i)) ring.count
-
--- ---- a place, as the code finds it: b places from `start` on
-pub place_near : (ring : Ring) (i b : ℕ) → b ≡ ring.cap - ring.start → i < b → ring.start + i ≡ place_of ring i
-unfolding place_of
-place_near ring i b e h = simp (lt-ltb i (ring.cap - ring.start) (omega arith))
-
-pub place_far : (ring : Ring) (i b : ℕ) → b ≡ ring.cap - ring.start → b ≤ i → i - b ≡ place_of ring i
-unfolding place_of
-place_far ring i b e h = simp (le-ltb i (ring.cap - ring.start) (omega arith)) (ap (λ (n : ℕ). i - n) e)
 
 -- ---- one more: the oldest leave where there is no room
 pub newest-more : {A : Type 0} (max : ℕ) (l : List A) (x : A) → (max ≡ 0 → ⊥)

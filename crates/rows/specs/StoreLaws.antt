@@ -1,15 +1,15 @@
 -- Laws of ids in a store: where a row lies, one step of each walk over the rows, what the tests say of each row, and
 -- what a row more or some rows less leave.
-use Rattle.std.specs.Prelude.{ℕ, zero, suc, ◌+◌, ◌-◌, ◌*◌, ◌/◌, ◌≤◌, ◌<◌, min, ◌≡◌, true, false, length, take, set, leb, ltb}
+use Rattle.std.specs.Prelude.{ℕ, zero, suc, ◌+◌, ◌-◌, ◌*◌, ◌≤◌, ◌<◌, min, ◌≡◌, true, false, length, take, set, leb, ltb}
 use Rattle.std.proofs.Math.Path.{refl, ap}
-use Rattle.std.proofs.Common.{sym, ◌∙◌, mul-le-mul, mul-le-mul_right, suc-mul, zero-lt-suc, div-lt_iff_lt-mul, le-div_iff_mul-le, length-drop, length-set, drop_of_length-le, get_or-set_same, get_or-set_other, take_all}
+use Rattle.std.proofs.Common.{sym, ◌∙◌, mul-le-mul, mul-le-mul_right, suc-mul, zero-lt-suc, length-drop, length-set, drop_of_length-le, get_or-set_same, get_or-set_other, take_all}
 use mathlib.Core.List.{List, [], ◌∷◌}
 use native.Mathlib.Omega.{arith}
 use Rattle.std.proofs.Math.ListN.{drop, get_or, get_or-eq_default}
 use Rattle.std.proofs.lemmas.List.Edits.{sets}
 use Rattle.std.proofs.Math.Seq.{length-sets, take-nil}
 use borrow.Author.Count.{below_more}
-use borrow.Author.Tests.{le-leb, lt-leb, leb-true, leb-false, ltb-true, ltb-false, lt-ltb, le-ltb}
+use borrow.Author.Tests.{le-leb, leb-true, leb-false, ltb-true, ltb-false, lt-ltb, le-ltb}
 use Rattle.basis.specs.Cases.{either, clash}
 use Rattle.rows.specs.declared.Ring.{Ring}
 use Rattle.rows.specs.Rows.{tab, place_of, rows_in, without, one_more}
@@ -34,18 +34,12 @@ row_fits size cap p n m h k r =
     let b : suc p * size ≡ p * size + size = suc-mul p size in
     omega arith
 
--- where a place begins: the product of two numbers below 2^32 fits a word, and a larger one is divided for
+-- where a place begins: the product of two numbers below 2^32 fits a word
 pub product-fits : (p size : ℕ) → p < 4294967296 → size < 4294967296 → p * size ≤ 4294967295 * 4294967295
 product-fits p size h k =
     let a : p ≤ 4294967295 = omega arith in
     let b : size ≤ 4294967295 = omega arith in
     mul-le-mul a b
-
-pub product-past : (p size end : ℕ) → (size ≡ 0 → ⊥) → end / size < p → end < p * size
-product-past p size end some h = (div-lt_iff_lt-mul {k = size} {x = end} {y = p} (omega (arith, some))).0 h
-
-pub product-within : (p size end : ℕ) → (size ≡ 0 → ⊥) → p ≤ end / size → p * size ≤ end
-product-within p size end some h = (le-div_iff_mul-le {k = size} {x = p} {y = end} (omega (arith, some))).0 h
 
 -- a part from b on, cut at the store's end
 pub part_cut : (st : List ℕ) (b n k m : ℕ) → k ≡ min b (length st) → m ≡ min n (length st - k)
@@ -69,62 +63,10 @@ part_cut st b n k m ek em =
     let y : drop b st ≡ [] = drop_of_length-le st {i = b} (omega arith) in
     rw (x, y, take-nil m, take-nil n)))
 
--- the id in a place: past the lengths, whole, and cut
-module _ (size : ℕ) (lens st : List ℕ) (p : ℕ) where
-  pub id-past : length lens ≤ p → [] ≡ id_at size lens st p
-  unfolding id_at
-  id-past h = rw (get_or-eq_default lens 0 h)
-
-  pub id-whole : take ((p * size + get_or lens p 0) - p * size) (drop (p * size) st) ≡ id_at size lens st p
-  unfolding id_at
-  id-whole =
-      let k : (p * size + get_or lens p 0) - p * size ≡ get_or lens p 0 = omega arith in
-      rw k
-
-  pub id-cut : take (get_or lens p 0) (drop (p * size) st) ≡ id_at size lens st p
-  unfolding id_at
-  id-cut = refl
-
--- ---- numbers in use
-module _ (most : ℕ) (ring : Ring) (l : List ℕ) (i : ℕ) (inv : all_up_to most (drop i (in_use ring l)) ≡ all_up_to most
-    (in_use ring l)) where
-  pub within_more : i < ring.count → get_or l (place_of ring i) 0 ≤ most → all_up_to most (drop (i + 1) (in_use ring l))
-      ≡ all_up_to most (in_use ring l)
-  unfolding all_up_to in_use
-  within_more h e =
-      simp (le-leb (get_or l (place_of ring i) 0) most e) at (rw (ring_from (λ (p : ℕ). get_or l p 0) ring i h) at inv)
-
-  pub within-not : i < ring.count → most < get_or l (place_of ring i) 0 → false ≡ all_up_to most (in_use ring l)
-  unfolding all_up_to in_use
-  within-not h e =
-      simp (lt-leb (get_or l (place_of ring i) 0) most e) at (rw (ring_from (λ (p : ℕ). get_or l p 0) ring i h) at inv)
-
-  pub within_all : ring.count ≤ i → true ≡ all_up_to most (in_use ring l)
-  unfolding all_up_to in_use
-  within_all h = rw (ring_end (λ (p : ℕ). get_or l p 0) ring i h) at inv
+-- what finding a place in a store takes
+pub ruleset placed = (product-fits, part_cut, get_or-eq_default)
 
 -- ---- finding an id
-module _ (size : ℕ) (ring : Ring) (lens st id : List ℕ) (i r : ℕ)
-    (inv : i + index_of id (drop i (ids_in size ring lens st)) ≡ r) where
-  pub find_more : i < ring.count → same_bytes (id_at size lens st (place_of ring i)) id ≡ false
-      → (i + 1) + index_of id (drop (i + 1) (ids_in size ring lens st)) ≡ r
-  unfolding index_of ids_in
-  find_more h e =
-      let k = simp e at (rw (ring_from (id_at size lens st) ring i h) at inv) in
-      omega arith
-
-  pub find_here : i < ring.count → same_bytes (id_at size lens st (place_of ring i)) id ≡ true → i ≡ r
-  unfolding index_of ids_in
-  find_here h e =
-      let k = simp e at (rw (ring_from (id_at size lens st) ring i h) at inv) in
-      omega arith
-
-  pub find_none : ring.count ≤ i → i ≡ r
-  unfolding index_of ids_in
-  find_none h =
-      let k = rw (ring_end (id_at size lens st) ring i h) at inv in
-      omega arith
-
 -- an id is among others exactly where it has a place before their end
 pub index-among : (i : List ℕ) (l : List (List ℕ)) → among i l ≡ ltb (index_of i l) (length l)
 unfolding among index_of

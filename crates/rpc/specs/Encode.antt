@@ -1,16 +1,15 @@
 -- Writing an RPC: the bytes that stand for it, from the Protocol Buffers encoding document and message.rs, IDONTWANTs
 -- after the prunes. Fields stand
 -- in the order of their numbers; what is absent is not written; a message stands as its raw bytes.
-use Rattle.std.specs.Prelude.{ℕ, Bool, true, false, List, [], ◌∷◌, ◌++◌}
-use Rattle.std.proofs.Math.Option.{Option, none, some}
+use Rattle.std.specs.Prelude.{Option, Some, None, ℕ, Bool, true, false, List, [], ◌∷◌, ◌++◌}
 use Rattle.protobuf.specs.Encode.{varint_field, bytes_field}
 use Rattle.rpc.specs.Rpc.{SubOpts, RawMessage, ControlIHave, ControlIWant, ControlGraft, PeerInfo, ControlPrune}
 use Rattle.rpc.specs.Rpc.{ControlIDontWant, ControlMessage, Rpc}
 
 -- an optional field, and a repeated one
 abbrev pub optional : {A : Type 0} → (A → List ℕ) → Option A → List ℕ
-optional f none = []
-optional f (some x) = f x
+optional f None = []
+optional f (Some x) = f x
 
 abbrev pub repeated : {A : Type 0} → (A → List ℕ) → List A → List ℕ
 repeated f [] = []

@@ -2,8 +2,7 @@
 -- fields one after the other (protobuf's `Body`); a field is known by its number and its wire type, and all others are
 -- passed over, groups among them where the dialect's mode takes them; of a singular field the last wins; repeated ones
 -- append; a submessage is a body of its own; topics are UTF-8. Nothing here speaks of a reader.
-use Rattle.std.specs.Prelude.{ℕ, Bool, not, cond, List, [], ◌∷◌, ◌++◌, eqb}
-use Rattle.std.proofs.Math.Option.{Option, none, some}
+use Rattle.std.specs.Prelude.{Option, Some, None, ℕ, Bool, not, cond, List, [], ◌∷◌, ◌++◌, eqb}
 use Rattle.basis.specs.declared.Edition.{Edition}
 use Rattle.basis.specs.declared.Edition.TheVariants.{V11, V12}
 use Rattle.basis.specs.declared.Mode.{Mode}
@@ -42,11 +41,11 @@ bytes_in n (e ∷ es) = put_bytes (eqb e.field n) e.payload (bytes_in n es)
 
 -- the last wins
 abbrev pub or_else : {A : Type 0} → Option A → A → Option A
-or_else none x = some x
-or_else (some y) x = some y
+or_else None x = Some x
+or_else (Some y) x = Some y
 
 abbrev pub last : {A : Type 0} → List A → Option A
-last [] = none
+last [] = None
 last (x ∷ xs) = or_else (last xs) x
 
 infixr 20 ◌and◌
@@ -64,8 +63,8 @@ pub data Pairs {A B : Type 0} (R : A → B → Type 0) : List A → List B → T
 -- ---- the messages
 -- any nonzero `subscribe` is true
 abbrev pub nonzero : Option ℕ → Option Bool
-nonzero none = none
-nonzero (some v) = some (not (eqb v 0))
+nonzero None = None
+nonzero (Some v) = Some (not (eqb v 0))
 
 pub data IsSubOpts (mode : Mode) : List ℕ → SubOpts → Type 0 where
   is-sub_opts : {s : List ℕ} {es : List Entry} → Body mode s es → Each Utf8 (bytes_in 2 es)
@@ -131,11 +130,11 @@ join c d = record {
 }
 
 abbrev pub join_to : ControlMessage → Option ControlMessage → Option ControlMessage
-join_to c none = some c
-join_to c (some d) = some (join c d)
+join_to c None = Some c
+join_to c (Some d) = Some (join c d)
 
 abbrev pub joined : List ControlMessage → Option ControlMessage
-joined [] = none
+joined [] = None
 joined (c ∷ cs) = join_to c (joined cs)
 
 pub data IsRpc (d : Dialect) : List ℕ → Rpc → Type 0 where

@@ -1,7 +1,6 @@
 -- The RPC as a value: the messages of the gossipsub v1.1 protobuf, and IDONTWANT of v1.2, over lists of bytes. What may
 -- be absent is an Option, so that absent and empty stay apart. Names are message.rs's.
-use Rattle.std.specs.Prelude.{ℕ, Bool, List}
-use Rattle.std.proofs.Math.Option.{Option}
+use Rattle.std.specs.Prelude.{Option, ℕ, Bool, List}
 
 -- message SubOpts { optional bool subscribe = 1; optional string topicid = 2; }
 pub record SubOpts : Type 0 where

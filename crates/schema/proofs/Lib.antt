@@ -1,4 +1,3 @@
--- On the way to theorems: SlotsLaws (places within the message). Of functions: Turns, Cells.
+-- On the way to theorems: SlotsLaws (places within the message). Of functions: Turns.
 pub mod SlotsLaws
 pub mod Turns
-pub mod Cells

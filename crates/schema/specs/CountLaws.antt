@@ -1,6 +1,6 @@
 -- Laws of counting: along a message's fields, and in its submessages in the same way; and a message has no more records
 -- than bytes.
-use Rattle.std.specs.Prelude.{ℕ, ◌+◌, ◌-◌, ◌≤◌, ◌<◌, ◌≡◌, refl, List, length, drop}
+use Rattle.std.specs.Prelude.{Result, Ok, Err, ℕ, ◌+◌, ◌-◌, ◌≤◌, ◌<◌, ◌≡◌, refl, List, length, drop}
 use Rattle.std.proofs.Common.{sym, ap, ap₂, ◌∙◌, arith, length-take}
 use Rattle.basis.specs.declared.Mode.{Mode}
 use Rattle.basis.specs.Cases.{either, clash}
@@ -15,15 +15,13 @@ use Rattle.schema.specs.declared.Form.{Form}
 use Rattle.schema.specs.declared.Role.{Role}
 use Rattle.schema.specs.declared.Role.TheVariants.{Skip, Number, Text, Bytes, Unsigned, Topic, MessageId, Sub}
 use Rattle.protobuf.specs.declared.WireError.{WireError}
-use Rattle.schema.specs.declared.Counted.{Counted}
-use Rattle.schema.specs.declared.Counted.TheVariants.{Records, Refused}
 use Rattle.schema.specs.Schema.{role_of, rank, own_of}
 use Rattle.schema.specs.SchemaLaws.{sub-rank}
 use Rattle.schema.specs.Kinds.{unfolds, by_rank}
 use Rattle.schema.specs.Count.{plus, and_then, text_count, role_count, count_along, count_step, counted, field_count}
 
 -- ---- counting in a message: along its fields, and in its submessages in the same way
-same_role : (f g : Kind → List ℕ → Counted) (s : List ℕ) (x : Field) (r : Role)
+same_role : (f g : Kind → List ℕ → Result ℕ WireError) (s : List ℕ) (x : Field) (r : Role)
     → ((j : Kind) (form : Form) (p : List ℕ) → r ≡ Sub j form → f j p ≡ g j p) → role_count f s x r ≡ role_count g s x r
 same_role f g s x Skip h = refl
 same_role f g s x (Number figure) h = refl
@@ -34,7 +32,7 @@ same_role f g s x Topic h = refl
 same_role f g s x MessageId h = refl
 same_role f g s x (Sub k form) h = ap (plus (own_of k)) (h k form (between s x.start x.next) refl)
 
-same-along : (f g : Kind → List ℕ → Counted) (k : Kind) (s : List ℕ) (w : Fields)
+same-along : (f g : Kind → List ℕ → Result ℕ WireError) (k : Kind) (s : List ℕ) (w : Fields)
     → ((j : Kind) (p : List ℕ) → rank j < rank k → f j p ≡ g j p) → count_along f k s w ≡ count_along g k s w
 same-along f g k s end h = refl
 same-along f g k s (refused why) h = refl
@@ -47,7 +45,7 @@ same-along f g k s (x then w) h =
 pub count_along_lem : (mode : Mode) (k : Kind) (s : List ℕ)
     → counted mode k s ≡ count_along (counted mode) k s (fields_of mode s)
 unfolding counted
-count_along_lem mode k s = unfolds (count_step mode) (Records 0) (λ f g j p h. same-along f g j p (fields_of mode p) h) k s
+count_along_lem mode k s = unfolds (count_step mode) (Ok 0) (λ f g j p h. same-along f g j p (fields_of mode p) h) k s
 
 -- ---- a message has no more records than bytes
 pub own-one : (k : Kind) → own_of k ≤ 1
@@ -65,23 +63,23 @@ own-one kind.ControlPrune = omega arith
 own-one kind.PeerInfo = omega arith
 own-one kind.ControlIDontWant = omega arith
 
-pub text-fits : (s : List ℕ) (f : Field) (n m : ℕ) → text_count s f n ≡ Records m → m ≡ n
+pub text-fits : (s : List ℕ) (f : Field) (n m : ℕ) → text_count s f n ≡ Ok m → m ≡ n
 unfolding text_count
 text-fits s f n m h =
     either (is_utf8 (between s f.start f.next)) (λ t. let e = simp t at h in cc)
     (λ t. clash (let e = simp t at h in cc))
 
-pub plus-fits : (n m : ℕ) (r : Counted) → plus n r ≡ Records m → (x : ℕ) × (r ≡ Records x) × (m ≡ n + x)
-plus-fits n m (Records x) h = (x, refl, cc)
-plus-fits n m (Refused why) h = clash (cc)
+pub plus-fits : (n m : ℕ) (r : Result ℕ WireError) → plus n r ≡ Ok m → (x : ℕ) × (r ≡ Ok x) × (m ≡ n + x)
+plus-fits n m (Ok x) h = (x, refl, cc)
+plus-fits n m (Err why) h = clash (cc)
 
-pub plus-refused : (n : ℕ) (r : Counted) (why : WireError) → plus n r ≡ Refused why → r ≡ Refused why
-plus-refused n (Records m) why h = clash (cc)
-plus-refused n (Refused w) why h = cc
+pub plus-refused : (n : ℕ) (r : Result ℕ WireError) (why : WireError) → plus n r ≡ Err why → r ≡ Err why
+plus-refused n (Ok m) why h = clash (cc)
+plus-refused n (Err w) why h = cc
 
-role_fits : (s : List ℕ) (at : ℕ) (f : Field) (r : Role) (sub : Kind → List ℕ → Counted) (m : ℕ) → Stands s at f
-    → role_count sub s f r ≡ Records m → ((j : Kind) (form : Form) (p : List ℕ) (x : ℕ) → r ≡ Sub j form
-    → sub j p ≡ Records x → x ≤ length p) → m ≤ f.next - at
+role_fits : (s : List ℕ) (at : ℕ) (f : Field) (r : Role) (sub : Kind → List ℕ → Result ℕ WireError) (m : ℕ)
+    → Stands s at f → role_count sub s f r ≡ Ok m → ((j : Kind) (form : Form) (p : List ℕ) (x : ℕ) → r ≡ Sub j form
+    → sub j p ≡ Ok x → x ≤ length p) → m ≤ f.next - at
 role_fits s at f Skip sub m st h ih = let e : m ≡ 0 = cc in omega arith
 role_fits s at f (Number figure) sub m st h ih = let e : m ≡ 0 = cc in omega arith
 role_fits s at f (Text slot) sub m st h ih = let e = text-fits s f 0 m h in omega arith
@@ -97,18 +95,18 @@ role_fits s at f (Sub k form) sub m st h ih =
     let o = own-one k in
     omega (arith, t.2)
 
-pub then-fits : (a : Counted) (b : Counted) (n : ℕ) → and_then a b ≡ Records n → (x : ℕ) × (y : ℕ) × (a ≡ Records x)
-    × (b ≡ Records y) × (n ≡ x + y)
-then-fits (Records x) (Records y) n h = (x, y, refl, refl, cc)
-then-fits (Records x) (Refused why) n h = clash (cc)
-then-fits (Refused why) b n h = clash (cc)
+pub then-fits : (a b : Result ℕ WireError) (n : ℕ) → and_then a b ≡ Ok n
+    → (x : ℕ) × (y : ℕ) × (a ≡ Ok x) × (b ≡ Ok y) × (n ≡ x + y)
+then-fits (Ok x) (Ok y) n h = (x, y, refl, refl, cc)
+then-fits (Ok x) (Err why) n h = clash (cc)
+then-fits (Err why) b n h = clash (cc)
 
 -- along the walk, where submessages keep to it
 walk-fits : (mode : Mode) (k : Kind) (s : List ℕ) → ((j : Kind) (p : List ℕ) (x : ℕ) → rank j < rank k
-    → counted mode j p ≡ Records x
-    → x ≤ length p) → (at n : ℕ) → count_along (counted mode) k s (walk_at mode s at) ≡ Records n → n ≤ length s - at
+    → counted mode j p ≡ Ok x
+    → x ≤ length p) → (at n : ℕ) → count_along (counted mode) k s (walk_at mode s at) ≡ Ok n → n ≤ length s - at
 walk-fits mode k s ih =
-    along mode s (λ (at : ℕ) (w : Fields). (n : ℕ) → count_along (counted mode) k s w ≡ Records n → n ≤ length s - at)
+    along mode s (λ (at : ℕ) (w : Fields). (n : ℕ) → count_along (counted mode) k s w ≡ Ok n → n ≤ length s - at)
     (λ at n h. let e : n ≡ 0 = cc in omega arith)
     (λ at why r n h. clash (cc))
     (λ at f st e rest n h.
@@ -119,15 +117,15 @@ walk-fits mode k s ih =
     let b = rest t.1 t.3 in
     omega (arith, t.4))
 
-pub count_fits : (mode : Mode) (k : Kind) (s : List ℕ) (n : ℕ) → counted mode k s ≡ Records n → n ≤ length s
+pub count_fits : (mode : Mode) (k : Kind) (s : List ℕ) (n : ℕ) → counted mode k s ≡ Ok n → n ≤ length s
 count_fits mode =
-    by_rank (λ k. (s : List ℕ) (n : ℕ) → counted mode k s ≡ Records n → n ≤ length s)
+    by_rank (λ k. (s : List ℕ) (n : ℕ) → counted mode k s ≡ Ok n → n ≤ length s)
     (λ k ih s n h. let l = walk-fits mode k s (λ j p x q e. ih j q p x e) 0 n (sym (count_along_lem mode k s)
     ∙ h) in omega arith)
 
 -- a field has no more records than bytes, its tag counted
 pub field_fits : (mode : Mode) (k : Kind) (s : List ℕ) (at : ℕ) (f : Field) (m : ℕ) → Stands s at f
-    → field_count mode k s f ≡ Records m
+    → field_count mode k s f ≡ Ok m
     → m ≤ f.next - at
 unfolding field_count
 field_fits mode k s at f m st h = role_fits s at f (role_of k f.field f.wire_type) (counted mode) m st h

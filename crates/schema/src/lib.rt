@@ -3,19 +3,18 @@
 #![tactic(auto)]
 
 ghost use Rattle.std.specs.Prelude.{◌+◌, ◌<◌, ◌≡◌, length};
-ghost use Rattle.schema.specs.Schema.{added_in, table, row_from, row_of, is_varint, role_of, formed_as, held_of, own_of};
+ghost use Rattle.schema.specs.Schema.{added_in, table, row_from, row_of, role_of, formed_as, held_of, own_of};
 ghost use Rattle.schema.specs.Accept.{body_records, accept_of};
 ghost use Rattle.schema.specs.Count.{FieldWithin, counted, field_count, text_count};
 ghost use Rattle.basis.specs.Spot.{inside, Reaches};
 ghost use Rattle.protobuf.specs.Refusal.{standing};
 ghost use Rattle.schema.specs.Spots.{text_spot, field_spot, spot_in};
 ghost use Rattle.schema.specs.Slots.{set_place, place_of, with_field, slots_of, has_field};
-ghost use Rattle.schema.specs.Made.{place_from, number_from, made_from, index_of, Sixes};
+ghost use Rattle.schema.specs.Made.{place_from, number_from};
 
 use basis::{Dialect, Edition, Mode, Spot};
 use protobuf::{
-    Checked, Field, MAX_RPC_SIZE, Refusal, Step, WIRE_LEN, WIRE_VARINT, WireError, read_field,
-    spot_of,
+    Field, MAX_RPC_SIZE, Refusal, WIRE_LEN, WIRE_VARINT, WireError, read_field, spot_of,
 };
 
 // The most records that a body may have.
@@ -103,31 +102,16 @@ pub struct Slots {
     pub fifth: Place,
 }
 
-#[derive(Clone, Copy)]
-pub enum Counted {
-    Records(usize),
-    Refused(WireError),
-}
-
-// The same of a whole body, with the refusal's place.
-#[derive(Clone, Copy)]
-pub enum Tested {
-    Records(usize),
-    Refused(Refusal),
-}
-
 // The role of a control's field from 5 on: what an edition adds.
 fn added(edition: Edition, field: u64) -> Role
     ensures { result ≡ row_from 5 (added_in edition) field }
 {
     match edition {
         Edition::V11 => Role::Skip,
-        Edition::V12 => {
-            if field == 5 {
-                return Role::Sub(Kind::ControlIDontWant, Form::Anew);
-            }
-            Role::Skip
-        }
+        Edition::V12 => match field {
+            5 => Role::Sub(Kind::ControlIDontWant, Form::Anew),
+            _ => Role::Skip,
+        },
     }
 }
 
@@ -276,40 +260,21 @@ pub fn rows(kind: Kind) -> u64
     }
 }
 
-// Whether a role is a varint's; all others are of length-delimited fields.
-fn is_varint(role: Role) -> bool
-    ensures { result ≡ is_varint role }
-{
-    match role {
-        Role::Skip => false,
-        Role::Number(_) => true,
-        Role::Text(_) => false,
-        Role::Bytes(_) => false,
-        Role::Unsigned(_) => false,
-        Role::Topic => false,
-        Role::MessageId => false,
-        Role::Sub(_, _) => false,
-    }
-}
-
 // What a field of a message is, by its number and wire type. The type is tested first: so this is small enough to be part of each walk.
 pub fn role_of(kind: Kind, field: u64, wire_type: u8) -> Role
     ensures { result ≡ role_of kind field wire_type }
 {
-    if wire_type == WIRE_LEN {
-        let role = row_of(kind, field);
-        if is_varint(role) {
-            return Role::Skip;
-        }
-        return role;
+    match wire_type {
+        WIRE_LEN => match row_of(kind, field) {
+            Role::Number(_) => Role::Skip,
+            role => role,
+        },
+        WIRE_VARINT => match row_of(kind, field) {
+            role @ Role::Number(_) => role,
+            _ => Role::Skip,
+        },
+        _ => Role::Skip,
     }
-    if wire_type == WIRE_VARINT {
-        let role = row_of(kind, field);
-        if is_varint(role) {
-            return role;
-        }
-    }
-    Role::Skip
 }
 
 // How the entries of a field are written, by its role.
@@ -317,14 +282,9 @@ pub fn held_of(role: Role) -> Held
     ensures { result ≡ held_of role }
 {
     match role {
-        Role::Skip => Held::Nothing,
-        Role::Number(_) => Held::Nothing,
-        Role::Text(_) => Held::Nothing,
-        Role::Bytes(_) => Held::Nothing,
-        Role::Unsigned(_) => Held::Nothing,
-        Role::Topic => Held::Whole,
-        Role::MessageId => Held::Whole,
+        Role::Topic | Role::MessageId => Held::Whole,
         Role::Sub(kind, form) => formed(kind, form),
+        _ => Held::Nothing,
     }
 }
 
@@ -343,266 +303,165 @@ pub fn own(kind: Kind) -> usize
     ensures { result ≡ own_of kind }
 {
     match kind {
-        Kind::Rpc(_) => 0,
-        Kind::SubOpts => 1,
-        Kind::RawMessage => 1,
-        Kind::Topic => 1,
-        Kind::ControlMessage(_) => 0,
-        Kind::ControlIHave => 1,
-        Kind::ControlIWant => 1,
-        Kind::MessageId => 1,
-        Kind::ControlGraft => 1,
-        Kind::ControlPrune => 1,
-        Kind::PeerInfo => 1,
-        Kind::ControlIDontWant => 1,
+        Kind::Rpc(_) | Kind::ControlMessage(_) => 0,
+        _ => 1,
     }
 }
 
 // n records for a field of text, or refusal 7.
-fn count_text(input: &[u8], f: Field, n: usize) -> Counted
+fn count_text(input: &[u8], f: Field, n: usize) -> Result<usize, WireError>
     requires { FieldWithin input.now f }
     ensures { result ≡ text_count input.now f n }
 {
-    let start = f.start;
-    let next = f.next;
-    if utf8::is_utf8(&input[start..next]) {
-        return Counted::Records(n);
+    if utf8::is_utf8(&input[f.start..f.next]) {
+        Ok(n)
+    } else {
+        Err(WireError::InvalidUtf8 { offset: f.tag_end })
     }
-    Counted::Refused(WireError::InvalidUtf8 { offset: f.tag_end })
 }
 
 // How many records a field of a message has, or why the field is refused.
 #[cycle(count_count_field)]
-fn count_field(mode: Mode, input: &[u8], kind: Kind, f: Field) -> Counted
+fn count_field(mode: Mode, input: &[u8], kind: Kind, f: Field) -> Result<usize, WireError>
     requires { FieldWithin input.now f }
     ensures { result ≡ field_count mode kind input.now f }
 {
-    let role = role_of(kind, f.field, f.wire_type);
-    match role {
-        Role::Skip => Counted::Records(0),
-        Role::Number(_) => Counted::Records(0),
+    match role_of(kind, f.field, f.wire_type) {
         Role::Text(_) => count_text(input, f, 0),
-        Role::Bytes(_) => Counted::Records(0),
         Role::Topic => count_text(input, f, 1),
-        Role::MessageId => Counted::Records(1),
+        Role::MessageId => Ok(1),
         Role::Sub(k, _) => {
-            let start = f.start;
-            let next = f.next;
-            let c = count(mode, &input[start..next], k);
-            match c {
-                Counted::Refused(why) => Counted::Refused(why),
-                Counted::Records(n) => {
-                    let o = own(k);
-                    Counted::Records(o + n)
-                }
-            }
+            let n = count(mode, &input[f.start..f.next], k)?;
+            Ok(own(k) + n)
         }
-        Role::Unsigned(_) => Counted::Records(0),
+        Role::Skip | Role::Number(_) | Role::Bytes(_) | Role::Unsigned(_) => Ok(0),
     }
 }
 
 // How many records a message has, or why it is refused.
 #[cycle(count_count_field)]
-pub fn count(mode: Mode, input: &[u8], kind: Kind) -> Counted
+pub fn count(mode: Mode, input: &[u8], kind: Kind) -> Result<usize, WireError>
     ensures { result ≡ counted mode kind input.now }
 {
-    let mut at: usize = 0;
-    let mut n: usize = 0;
-    while at < input.len() {
-        let step = read_field(mode, input, at);
-        match step {
-            Step::End => {
-                return Counted::Records(n);
-            }
-            Step::Refused(why) => {
-                return Counted::Refused(why);
-            }
-            Step::At(f) => {
-                let c = count_field(mode, input, kind, f);
-                match c {
-                    Counted::Refused(why) => {
-                        return Counted::Refused(why);
-                    }
-                    Counted::Records(m) => {
-                        n = n + m;
-                        at = f.next;
-                    }
-                }
-            }
-        }
+    let mut at = 0;
+    let mut n = 0;
+    while let Some(f) = read_field(mode, input, at)? {
+        n += count_field(mode, input, kind, f)?;
+        at = f.next;
     }
-    Counted::Records(n)
+    Ok(n)
 }
 
 // Where a field of text is refused.
-fn spot_text(input: &[u8], f: Field) -> Spot
+fn spot_text(input: &[u8], f: Field) -> Option<Spot>
     requires { FieldWithin input.now f }
     ensures { result ≡ text_spot input.now f }
 {
-    let start = f.start;
-    let end = f.next;
-    if utf8::is_utf8(&input[start..end]) {
-        return Spot::Nowhere;
+    if utf8::is_utf8(&input[f.start..f.next]) {
+        None
+    } else {
+        Some(Spot::at(f.tag_end))
     }
-    Spot::at(f.tag_end)
 }
 
 // A place in a submessage, as it stands in the message that encloses it: in a field of that number, whose bytes stand from start.
-fn enclose(spot: Spot, field: u64, start: usize) -> Spot
+fn enclose(spot: Option<Spot>, field: u64, start: usize) -> Option<Spot>
     requires { Reaches start spot }
     ensures { result ≡ inside field start spot }
 {
-    match spot {
-        Spot::Nowhere => Spot::Nowhere,
-        Spot::At {
-            offset,
-            outer,
-            middle,
-            inner: _,
-        } => Spot::At {
-            offset: start + offset,
-            outer: field,
-            middle: outer,
-            inner: middle,
-        },
-    }
+    let spot = spot?;
+    Some(Spot {
+        offset: start + spot.offset,
+        outer: field,
+        middle: spot.outer,
+        inner: spot.middle,
+    })
 }
 
 // Where a field of a message is refused.
 #[cycle(spot_field_spot_in)]
-fn spot_field(mode: Mode, input: &[u8], kind: Kind, f: Field) -> Spot
+fn spot_field(mode: Mode, input: &[u8], kind: Kind, f: Field) -> Option<Spot>
     requires { FieldWithin input.now f }
     ensures { result ≡ field_spot mode kind input.now f }
 {
-    let role = role_of(kind, f.field, f.wire_type);
-    match role {
-        Role::Skip => Spot::Nowhere,
-        Role::Number(_) => Spot::Nowhere,
-        Role::Text(_) => spot_text(input, f),
-        Role::Bytes(_) => Spot::Nowhere,
-        Role::Topic => spot_text(input, f),
-        Role::MessageId => Spot::Nowhere,
+    match role_of(kind, f.field, f.wire_type) {
+        Role::Text(_) | Role::Topic => spot_text(input, f),
         Role::Sub(k, _) => {
-            let start = f.start;
-            let next = f.next;
-            let spot = spot_in(mode, &input[start..next], k);
-            enclose(spot, f.field, start)
+            let spot = spot_in(mode, &input[f.start..f.next], k);
+            enclose(spot, f.field, f.start)
         }
-        Role::Unsigned(_) => Spot::Nowhere,
+        _ => None,
     }
 }
 
 // Where a message is refused, at its first refusal in reading order. Bodies that are taken are not walked so: it is asked of refused ones only.
 #[cycle(spot_field_spot_in)]
-pub fn spot_in(mode: Mode, input: &[u8], kind: Kind) -> Spot
+pub fn spot_in(mode: Mode, input: &[u8], kind: Kind) -> Option<Spot>
     ensures { result ≡ spot_in mode kind input.now }
 {
-    let mut at: usize = 0;
-    while at < input.len() {
-        let step = read_field(mode, input, at);
-        match step {
-            Step::End => {
-                return Spot::Nowhere;
-            }
-            Step::Refused(why) => {
-                return spot_of(why);
-            }
-            Step::At(f) => {
+    let mut at = 0;
+    loop {
+        match read_field(mode, input, at) {
+            Err(why) => return spot_of(why),
+            Ok(None) => return None,
+            Ok(Some(f)) => {
                 let spot = spot_field(mode, input, kind, f);
-                match spot {
-                    Spot::At {
-                        offset: _,
-                        outer: _,
-                        middle: _,
-                        inner: _,
-                    } => {
-                        return spot;
-                    }
-                    Spot::Nowhere => {
-                        at = f.next;
-                    }
+                if spot.is_some() {
+                    return spot;
                 }
+                at = f.next;
             }
         }
     }
-    Spot::Nowhere
 }
 
 // Where a refusal in a message stands: 14 to 16 carry no place, so none is looked for.
 fn placed(mode: Mode, input: &[u8], kind: Kind, why: WireError) -> Refusal
     ensures { result ≡ standing (spot_in mode kind input.now) why }
 {
-    let own = spot_of(why);
-    match own {
-        Spot::Nowhere => Refusal::nowhere(why),
-        Spot::At {
-            offset: _,
-            outer: _,
-            middle: _,
-            inner: _,
-        } => Refusal {
-            why,
-            spot: spot_in(mode, input, kind),
-        },
+    if spot_of(why).is_none() {
+        return Refusal::nowhere(why);
+    }
+    Refusal {
+        why,
+        spot: spot_in(mode, input, kind),
     }
 }
 
 // How many records a body has, or why it is refused, and where: 10, 1 to 7 and 14 to 16, 11. This is the one test of a body.
-pub fn body_records(dialect: Dialect, body: &[u8]) -> Tested
+pub fn body_records(dialect: Dialect, body: &[u8]) -> Result<usize, Refusal>
     ensures { result ≡ body_records dialect body.now }
 {
     if MAX_RPC_SIZE < body.len() {
-        return Tested::Refused(Refusal::nowhere(WireError::TooLarge { len: body.len() }));
+        return Err(Refusal::nowhere(WireError::TooLarge { len: body.len() }));
     }
     let mode = dialect.mode;
-    let edition = dialect.edition;
-    let kind = Kind::Rpc(edition);
-    let c = count(mode, body, kind);
-    match c {
-        Counted::Refused(why) => Tested::Refused(placed(mode, body, kind, why)),
-        Counted::Records(n) => {
-            if MAX_RECORDS < n {
-                return Tested::Refused(Refusal::nowhere(WireError::TooManyRecords { records: n }));
-            }
-            Tested::Records(n)
-        }
+    let kind = Kind::Rpc(dialect.edition);
+    let n = count(mode, body, kind).map_err(|why| placed(mode, body, kind, why))?;
+    if MAX_RECORDS < n {
+        return Err(Refusal::nowhere(WireError::TooManyRecords { records: n }));
     }
+    Ok(n)
 }
 
 // Whether a body is well formed and within capacity.
-pub fn accept(dialect: Dialect, body: &[u8]) -> Checked
+pub fn accept(dialect: Dialect, body: &[u8]) -> Result<(), Refusal>
     ensures { result ≡ accept_of dialect body.now }
 {
-    let c = body_records(dialect, body);
-    match c {
-        Tested::Refused(refusal) => Checked::Refused(refusal),
-        Tested::Records(_) => Checked::Fine,
-    }
+    body_records(dialect, body)?;
+    Ok(())
 }
 
 // Whether a message has a length-delimited field n.
 pub fn has_field(mode: Mode, input: &[u8], n: u64) -> bool
     ensures { result ≡ has_field mode n input.now }
 {
-    let mut at: usize = 0;
-    while at < input.len() {
-        let step = read_field(mode, input, at);
-        match step {
-            Step::End => {
-                return false;
-            }
-            Step::Refused(_) => {
-                return false;
-            }
-            Step::At(f) => {
-                if f.wire_type == WIRE_LEN {
-                    if f.field == n {
-                        return true;
-                    }
-                }
-                at = f.next;
-            }
+    let mut at = 0;
+    while let Ok(Some(f)) = read_field(mode, input, at) {
+        if f.wire_type == WIRE_LEN && f.field == n {
+            return true;
         }
+        at = f.next;
     }
     false
 }
@@ -630,100 +489,31 @@ pub fn number_from(there: u64, value: u64) -> Number
     Number::Present(value)
 }
 
-// The singular fields from plain arrays: 1 to 5 are the places, 0 is the number, its value among the starts.
-fn made(starts: &[u64; 6], ends: &[u64; 6], there: &[u64; 6]) -> Slots
-    ensures { result ≡ made_from starts.now ends.now there.now }
-{
-    let number = number_from(there[0], starts[0]);
-    let first = place_from(there[1], starts[1], ends[1]);
-    let second = place_from(there[2], starts[2], ends[2]);
-    let third = place_from(there[3], starts[3], ends[3]);
-    let fourth = place_from(there[4], starts[4], ends[4]);
-    let fifth = place_from(there[5], starts[5], ends[5]);
-    Slots {
-        number,
-        first,
-        second,
-        third,
-        fourth,
-        fifth,
-    }
-}
-
-fn index_of(slot: u8) -> usize
-    ensures value { result ≡ index_of slot }
-    ensures upper_bound { result < 6 }
-{
-    if slot == 1 {
-        return 1;
-    }
-    if slot == 2 {
-        return 2;
-    }
-    if slot == 3 {
-        return 3;
-    }
-    if slot == 4 {
-        return 4;
-    }
-    5
-}
-
 // A field's place, in a slot.
-fn take_place(slot: u8, f: Field, starts: &mut [u64; 6], ends: &mut [u64; 6], there: &mut [u64; 6])
-    requires { Sixes starts.old ends.old there.old }
-    ensures there_after { made_from starts.new ends.new there.new ≡ set_place (made_from starts.old ends.old there.old) slot (place_of f) }
-    ensures sixes { Sixes starts.new ends.new there.new }
+fn take_place(slot: u8, f: Field, slots: &mut Slots)
+    ensures { slots.new ≡ set_place slots.old slot (place_of f) }
 {
-    let i = index_of(slot);
-    starts[i] = f.start as u64;
-    ends[i] = f.next as u64;
-    there[i] = 1;
+    let place = Place::Present {
+        start: f.start,
+        end: f.next,
+    };
+    match slot {
+        1 => slots.first = place,
+        2 => slots.second = place,
+        3 => slots.third = place,
+        4 => slots.fourth = place,
+        _ => slots.fifth = place,
+    }
 }
 
 // A field of a message: the last wins.
-fn take_field(
-    kind: Kind,
-    f: Field,
-    starts: &mut [u64; 6],
-    ends: &mut [u64; 6],
-    there: &mut [u64; 6],
-)
-    requires { Sixes starts.old ends.old there.old }
-    ensures there_after { made_from starts.new ends.new there.new ≡ with_field kind (made_from starts.old ends.old there.old) f }
-    ensures sixes { Sixes starts.new ends.new there.new }
+fn take_field(kind: Kind, f: Field, slots: &mut Slots)
+    ensures { slots.new ≡ with_field kind slots.old f }
 {
-    let role = role_of(kind, f.field, f.wire_type);
-    match role {
-        Role::Skip => {
-            return;
-        }
-        Role::Number(_) => {
-            starts[0] = f.value;
-            there[0] = 1;
-            return;
-        }
-        Role::Text(slot) => {
-            take_place(slot, f, starts, ends, there);
-            return;
-        }
-        Role::Bytes(slot) => {
-            take_place(slot, f, starts, ends, there);
-            return;
-        }
-        Role::Topic => {
-            return;
-        }
-        Role::MessageId => {
-            return;
-        }
-        Role::Sub(_, _) => {
-            return;
-        }
-        Role::Unsigned(slot) => {
-            take_place(slot, f, starts, ends, there);
-            return;
-        }
+    match role_of(kind, f.field, f.wire_type) {
+        Role::Number(_) => slots.number = Number::Present(f.value),
+        Role::Text(slot) | Role::Bytes(slot) | Role::Unsigned(slot) => take_place(slot, f, slots),
+        _ => {}
     }
 }
 
@@ -731,24 +521,18 @@ fn take_field(
 pub fn slots_of(mode: Mode, input: &[u8], kind: Kind) -> Slots
     ensures { result ≡ slots_of mode kind input.now }
 {
-    let mut at: usize = 0;
-    let mut starts = [0u64; 6];
-    let mut ends = [0u64; 6];
-    let mut there = [0u64; 6];
-    while at < input.len() {
-        let step = read_field(mode, input, at);
-        match step {
-            Step::End => {
-                return made(&starts, &ends, &there);
-            }
-            Step::Refused(_) => {
-                return made(&starts, &ends, &there);
-            }
-            Step::At(f) => {
-                take_field(kind, f, &mut starts, &mut ends, &mut there);
-                at = f.next;
-            }
-        }
+    let mut at = 0;
+    let mut slots = Slots {
+        number: Number::Absent,
+        first: Place::Absent,
+        second: Place::Absent,
+        third: Place::Absent,
+        fourth: Place::Absent,
+        fifth: Place::Absent,
+    };
+    while let Ok(Some(f)) = read_field(mode, input, at) {
+        take_field(kind, f, &mut slots);
+        at = f.next;
     }
-    made(&starts, &ends, &there)
+    slots
 }

@@ -8,17 +8,17 @@ use lib.Seq.{sets, sets-eq, drop-drop}
 use lib.Dec.{ltb, leb}
 use borrow.Rule.Slice.PartMut.{put_mid}
 use mathlib.Core.Bool.{true, false}
-use borrow.Author.Tests.{eq-eqb, ne_eqb, le-leb, lt-leb, leb-true}
+use borrow.Author.Tests.{eq-eqb, ne_eqb, leb-true}
 use Rattle.basis.specs.Cases.{both}
 use Rattle.rows.specs.declared.Ring.{Ring}
 use Rattle.rows.specs.Rows.{place_of}
 use Rattle.rows.specs.Ids.{index_of}
-use Rattle.rows.specs.Store.{InStore, ids_in, in_use}
+use Rattle.rows.specs.Store.{InStore, ids_in}
 use Rattle.rows.specs.RowsLaws.{place-le}
 use Rattle.rows.specs.StoreLaws.{find_among}
 use Rattle.seen.specs.declared.SeenCache.{SeenCache}
-use Rattle.seen.specs.State.{spent, dropped, appended, id_size, max_ids, ring_of}
-use Rattle.seen.specs.Calls.{held_in, cleaned, can_enter, entered, entered_store}
+use Rattle.seen.specs.State.{dropped, appended, id_size, max_ids, ring_of}
+use Rattle.seen.specs.Calls.{held_in, can_enter, entered, entered_store}
 use Rattle.seen.specs.Unique.{Enters}
 
 -- what a copy into the part from `at` on leaves in the whole
@@ -26,10 +26,6 @@ pub sets-part : (st id y : List ℕ) (at : ℕ) → at + length id ≤ length st
 sets-part st id y at h e =
     let k : (at + length id) - at ≡ length id = omega arith in
     rw (e, k, drop-drop) (sym (sets-eq id st at h ∙ append_assoc (take at st) id (drop (at + length id) st)))
-
-pub dropped-is : (cap k p : ℕ) (c : SeenCache) → p ≡ place_of (ring_of cap c) k → ◌≡◌ {A = SeenCache} (record { start = p; count = c.count - k; expiry = c.expiry; len = c.len }) (dropped cap k c)
-unfolding dropped
-dropped-is cap k p c h = rw h
 
 pub appended-is : (cap n e p : ℕ) (c : SeenCache) → p ≡ place_of (ring_of cap c) c.count
     → ◌≡◌ {A = SeenCache} (record { start = c.start; count = c.count + 1; expiry = set c.expiry p e; len = set c.len p n }) (appended cap n e c)
@@ -43,41 +39,7 @@ pub held-is : (cap r : ℕ) (c : SeenCache) (st id : List ℕ) → r ≡ index_o
 unfolding held_in
 held-is cap r c st id e = sym (find_among id_size (ring_of cap c) c.len st id 0 r (omega arith))
 
-pub cleaned-is : (cap at k : ℕ) (c r : SeenCache) → k ≡ spent at (in_use (ring_of cap c) c.expiry) → r ≡ dropped cap k c → r ≡ cleaned cap at c
-unfolding cleaned
-cleaned-is cap at k c r e h = h ∙ ap (λ (n : ℕ). dropped cap n c) e
-
--- ---- whether an id can enter, test by test
-module _ (max : ℕ) (ring : Ring) (room n : ℕ) where
-  pub enter-start : ring.cap < ring.start → false ≡ can_enter max ring room n
-  unfolding can_enter
-  enter-start h = simp (lt-leb ring.start ring.cap h)
-
-  module _ (a : ring.start ≤ ring.cap) where
-    pub enter-count : ring.cap < ring.count → false ≡ can_enter max ring room n
-    unfolding can_enter
-    enter-count h = simp (le-leb ring.start ring.cap a, lt-leb ring.count ring.cap h)
-
-    module _ (b : ring.count ≤ ring.cap) where
-      pub enter_cap : max_ids < ring.cap → false ≡ can_enter max ring room n
-      unfolding can_enter
-      enter_cap h = simp (le-leb ring.start ring.cap a, le-leb ring.count ring.cap b, lt-leb ring.cap max_ids h)
-
-      module _ (d : ring.cap ≤ max_ids) where
-        pub enter-store : room < ring.cap * id_size → false ≡ can_enter max ring room n
-        unfolding can_enter
-        enter-store h = simp (le-leb ring.start ring.cap a, le-leb ring.count ring.cap b, le-leb ring.cap max_ids d, lt-leb (ring.cap * id_size) room h)
-
-        module _ (e : ring.cap * id_size ≤ room) where
-          pub enter-max : ring.cap < max → false ≡ can_enter max ring room n
-          unfolding can_enter
-          enter-max h = simp (le-leb ring.start ring.cap a, le-leb ring.count ring.cap b, le-leb ring.cap max_ids d, le-leb (ring.cap * id_size) room e, lt-leb max ring.cap h)
-
-          pub enter_id_lem : max ≤ ring.cap → leb n id_size ≡ can_enter max ring room n
-          unfolding can_enter
-          enter_id_lem h = simp (le-leb ring.start ring.cap a, le-leb ring.count ring.cap b, le-leb ring.cap max_ids d, le-leb (ring.cap * id_size) room e, le-leb max ring.cap h)
-
--- and what it says
+-- ---- what it says that an id can enter
 pub record Can (m : ℕ) (ring : Ring) (len n : ℕ) : Type 0 where
   pub starts : ring.start ≤ ring.cap
   pub within : ring.count ≤ ring.cap

@@ -1,6 +1,5 @@
 -- The seen cache as the scope and seen.rs have it: ids with their expiries, the oldest first.
-use Rattle.std.specs.Prelude.{ℕ, ◌+◌, ◌-◌, ◌^◌, min, List, [], ◌∷◌, ◌++◌, map, Bool, cond, leb}
-use Rattle.std.proofs.Math.Option.{Option, none, some}
+use Rattle.std.specs.Prelude.{Option, Some, None, ℕ, ◌+◌, ◌-◌, ◌^◌, min, List, [], ◌∷◌, ◌++◌, map, Bool, cond, leb}
 use Rattle.rows.specs.Rows.{newest}
 use Rattle.rows.specs.Ids.{among}
 
@@ -30,5 +29,5 @@ live at (e ∷ es) = cond (leb e.expiry at) (live at es) (e ∷ es)
 
 -- the front's expiry
 unfoldable pub front_expiry : List Entry → Option ℕ
-front_expiry [] = none
-front_expiry (e ∷ es) = some e.expiry
+front_expiry [] = None
+front_expiry (e ∷ es) = Some e.expiry

@@ -1,29 +1,28 @@
 -- Each refusal of the seen part comes exactly where the scope's table has it, by the scope's numbers, for every call
 -- that tests the lent state; and what stands beside a number. A call that is not refused tells what the entries say.
-use Rattle.std.specs.Prelude.{ℕ, ◌/◌, ◌%◌, ◌≤◌, ◌<◌, ◌≡◌, refl, List, [], ◌∷◌, true, false, cond, ◌↔◌, ◌⊎◌, length, get_or, leb, ltb, eqb}
+use Rattle.std.specs.Prelude.{Option, Some, None, Result, Ok, Err, ℕ, ◌/◌, ◌%◌, ◌≤◌, ◌<◌, ◌≡◌, refl, List, [], ◌∷◌, true, false, cond, ◌↔◌, ◌⊎◌, Bool, length, get_or, leb, ltb, eqb}
 use Rattle.std.proofs.Common.{ap, ◌∙◌, inl, inr, arith, eqb-true, leb-true, leb-false, ltb-true, ltb-false}
-use Rattle.std.proofs.Math.Option.{Option, none, some}
 use Rattle.std.proofs.lemmas.Bool.{eqb-false}
+use Rattle.std.specs.Result.{result_and}
+use Rattle.basis.specs.declared.Fault.{Fault}
+use Rattle.basis.specs.declared.Fault.TheVariants as fault
 use Rattle.basis.specs.declared.Told.{Told}
 use Rattle.basis.specs.Refusals.{bad_setting, bad-store, malformed, too_long-id}
-use Rattle.basis.specs.Told.{told, done, values_of}
+use Rattle.basis.specs.Told.{told, done, values_of, fault_told, fine_told}
 use Rattle.basis.specs.Cases.{either, clash}
 use Rattle.rows.specs.Rows.{place_of}
 use Rattle.seen.specs.declared.SeenCache.{SeenCache}
-use Rattle.seen.specs.declared.Lent.{Lent}
-use Rattle.seen.specs.declared.Lent.TheVariants as lent
-use Rattle.seen.specs.declared.Insert.{Insert}
-use Rattle.seen.specs.declared.Insert.TheVariants as insert
-use Rattle.seen.specs.declared.Contains.{Contains}
-use Rattle.seen.specs.declared.Contains.TheVariants as contains
-use Rattle.seen.specs.declared.NextExpiry.TheVariants as next
-use Rattle.seen.specs.Told.{lent_told, insert_told, contains_told, gc_told, next_told}
+use Rattle.seen.specs.declared.Entry.{Entry}
+use Rattle.seen.specs.declared.Entry.TheVariants.{Fresh, Held}
+use Rattle.seen.specs.declared.SeenError.{SeenError}
+use Rattle.seen.specs.declared.SeenError.TheVariants as error
+use Rattle.seen.specs.Told.{insert_told, contains_told, gc_told, next_told}
 use Rattle.seen.specs.Entries.{holds, live, front_expiry}
 use Rattle.seen.specs.State.{id_size, max_ids, ring_of, well_formed, entries_in}
-use Rattle.seen.specs.Calls.{cap_of, whole_rows, lent_of, held_in, cleaned, insert_on, insert_answer, contains_on}
-use Rattle.seen.specs.Calls.{contains_answer, gc_on, gc_answer, next_on, next_answer}
+use Rattle.seen.specs.Calls.{cap_of, whole_rows, lent_of, held_in, cleaned, on_lent, insert_answer}
+use Rattle.seen.specs.Calls.{contains_answer, gc_answer, next_answer}
 use Rattle.seen.specs.WellFormed.{WellFormed}
-use Rattle.seen.specs.Laws.{well_formed-exactly, insert_says, contains_says, gc_says, next_of, next-says}
+use Rattle.seen.specs.Laws.{well_formed-exactly, insert_says, contains_says, gc_says, next-says}
 
 -- ---- the calls that test the lent state, and what each tells
 pub data Call : Type 0 where
@@ -34,7 +33,7 @@ pub data Call : Type 0 where
   of_next : Call
 
 abbrev pub told_of : Call → SeenCache → List ℕ → Told
-told_of of_lent c st = lent_told (lent_of c st)
+told_of of_lent c st = fine_told (lent_of c st)
 told_of (of_insert max id) c st = insert_told (insert_answer max c st id)
 told_of (of_contains id) c st = contains_told (contains_answer c st id)
 told_of (of_gc at) c st = gc_told (gc_answer at c st)
@@ -104,7 +103,7 @@ fine-store c st w (inl n) = n (let e = w.whole in omega arith)
 fine-store c st w (inr n) = let e = w.few in omega arith
 
 -- what the lent state's test says
-says-store : (c : SeenCache) (st : List ℕ) → lent_of c st ≡ lent.BadStore → BadStore st
+says-store : (c : SeenCache) (st : List ℕ) → lent_of c st ≡ Err fault.BadStore → BadStore st
 unfolding lent_of
 says-store c st e =
     either (whole_rows st)
@@ -112,47 +111,57 @@ says-store c st e =
     (λ u. clash (let z = simp (t, u) at e in cc)))
     (λ t. bad-part st t)
 
-says-malformed : (c : SeenCache) (st : List ℕ) → lent_of c st ≡ lent.Malformed → BadStore st → ⊥
+says-malformed : (c : SeenCache) (st : List ℕ) → lent_of c st ≡ Err fault.Malformed → BadStore st → ⊥
 unfolding lent_of
 says-malformed c st e =
     either (whole_rows st) (λ t. right_store st t) (λ t. clash (let z = simp t at e in cc))
 
--- a call that tells of the lent state what its test says
-through-by : (k : Call) (c : SeenCache) (st : List ℕ) (f : Lent → Told) → (BadSetting k st → ⊥)
-    → f lent.BadStore ≡ told bad-store [] → f lent.Malformed ≡ told malformed []
-    → (WellFormed c st → Tells k c st (f lent.Fine)) → (l : Lent) → lent_of c st ≡ l → Tells k c st (f l)
-through-by k c st f n s m g lent.Fine e = g ((well_formed-exactly c st).0 e)
-through-by k c st f n s m g lent.BadStore e = rw s (is_store n (says-store c st e))
-through-by k c st f n s m g lent.Malformed e =
-    rw m (is-malformed n (says-malformed c st e) (λ w. clash (let z = (well_formed-exactly c st).1 w in cc)))
+fine-setting : (c : SeenCache) (st : List ℕ) → lent_of c st ≡ Err fault.BadSetting → ⊥
+unfolding lent_of
+fine-setting c st e =
+    either (whole_rows st)
+    (λ t. either (well_formed (cap_of st) c st) (λ u. clash (let z = simp (t, u) at e in cc))
+    (λ u. clash (let z = simp (t, u) at e in cc)))
+    (λ t. clash (let z = simp t at e in cc))
 
-through : (k : Call) (c : SeenCache) (st : List ℕ) (f : Lent → Told) → (BadSetting k st → ⊥)
-    → f lent.BadStore ≡ told bad-store [] → f lent.Malformed ≡ told malformed []
-    → (WellFormed c st → Tells k c st (f lent.Fine)) → Tells k c st (f (lent_of c st))
-through k c st f n s m g = through-by k c st f n s m g (lent_of c st) refl
+-- a call that tells of the lent state what its test says
+through-by : (k : Call) (c : SeenCache) (st : List ℕ) (f : Result (Unit {0}) Fault → Told) → (BadSetting k st → ⊥)
+    → ((e : Fault) → f (Err e) ≡ fault_told e)
+    → (WellFormed c st → Tells k c st (f (Ok tt))) → (l : Result (Unit {0}) Fault) → lent_of c st ≡ l
+    → Tells k c st (f l)
+through-by k c st f n m g (Ok _) e = g ((well_formed-exactly c st).0 e)
+through-by k c st f n m g (Err fault.BadSetting) e = absurd (fine-setting c st e)
+through-by k c st f n m g (Err fault.BadStore) e = rw (m fault.BadStore) (is_store n (says-store c st e))
+through-by k c st f n m g (Err fault.Malformed) e =
+    rw (m fault.Malformed)
+    (is-malformed n (says-malformed c st e) (λ w. clash (let z = (well_formed-exactly c st).1 w in cc)))
+
+through : (k : Call) (c : SeenCache) (st : List ℕ) (f : Result (Unit {0}) Fault → Told) → (BadSetting k st → ⊥)
+    → ((e : Fault) → f (Err e) ≡ fault_told e) → (WellFormed c st → Tells k c st (f (Ok tt)))
+    → Tells k c st (f (lent_of c st))
+through k c st f n m g = through-by k c st f n m g (lent_of c st) refl
 
 tells : (k : Call) (c : SeenCache) (st : List ℕ) → Tells k c st (told_of k c st)
 unfolding insert_answer contains_answer gc_answer next_answer cap_of
 tells of_lent c st =
-    through of_lent c st lent_told (λ h. omega arith) refl refl (λ w. is-done (λ h. omega arith) w (λ h. omega arith) [])
+    through of_lent c st fine_told (λ h. omega arith) (λ _. refl) (λ w. is-done (λ h. omega arith) w (λ h. omega arith) [])
 tells (of_insert max id) c st =
-    let inner : Insert =
-    cond (ltb id_size (length id)) (insert.TooLong (length id))
-    (cond (held_in (length st / id_size) c st id) insert.Held insert.Fresh) in
+    let inner : Result Entry SeenError =
+    cond (ltb id_size (length id)) (Err (error.TooLong (length id)))
+    (Ok (cond (held_in (length st / id_size) c st id) Held Fresh)) in
     either (ltb (length st / id_size) max) (λ t. rw t (is_setting (ltb-true (length st / id_size) max t)))
     (λ t. let l = ltb-false (length st / id_size) max t in
     rw t
-    (through (of_insert max id) c st (λ (l : Lent). insert_told (insert_on l inner)) (λ h. omega arith) refl refl
+    (through (of_insert max id) c st (λ l. insert_told (on_lent l inner)) (λ h. omega arith) (λ _. refl)
     (λ w. either (ltb id_size (length id)) (λ u. rw u (is-long (λ h. omega arith) w (ltb-true id_size (length id) u)))
     (λ u. let m = ltb-false id_size (length id) u in
     either (held_in (length st / id_size) c st id)
     (λ v. rw (u, v) (is-done (λ h. omega arith) w (λ h. omega arith) (0 ∷ [])))
     (λ v. rw (u, v) (is-done (λ h. omega arith) w (λ h. omega arith) (1 ∷ [])))))))
 tells (of_contains id) c st =
-    let inner : Contains =
-    cond (ltb id_size (length id)) (contains.TooLong (length id))
-    (cond (held_in (length st / id_size) c st id) contains.Yes contains.No) in
-    through (of_contains id) c st (λ (l : Lent). contains_told (contains_on l inner)) (λ h. omega arith) refl refl
+    let inner : Result Bool SeenError =
+    cond (ltb id_size (length id)) (Err (error.TooLong (length id))) (Ok (held_in (length st / id_size) c st id)) in
+    through (of_contains id) c st (λ l. contains_told (on_lent l inner)) (λ h. omega arith) (λ _. refl)
     (λ w. either (ltb id_size (length id)) (λ u. rw u (is-long (λ h. omega arith) w (ltb-true id_size (length id) u)))
     (λ u. let m = ltb-false id_size (length id) u in
     either (held_in (length st / id_size) c st id)
@@ -160,12 +169,12 @@ tells (of_contains id) c st =
     (λ v. rw (u, v) (is-done (λ h. omega arith) w (λ h. omega arith) (0 ∷ [])))))
 tells (of_gc at) c st =
     let n = (cleaned (length st / id_size) at c).count in
-    through (of_gc at) c st (λ (l : Lent). gc_told (gc_on l n)) (λ h. omega arith) refl refl
+    through (of_gc at) c st (λ l. gc_told (result_and l (Ok n))) (λ h. omega arith) (λ _. refl)
     (λ w. is-done (λ h. omega arith) w (λ h. omega arith) (n ∷ []))
 tells of_next c st =
     let e = get_or c.expiry (place_of (ring_of (length st / id_size) c) 0) 0 in
-    through of_next c st (λ (l : Lent). next_told (next_on l (cond (eqb c.count 0) next.None (next.At e))))
-    (λ h. omega arith) refl refl
+    through of_next c st (λ l. next_told (result_and l (Ok (cond (eqb c.count 0) None (Some e)))))
+    (λ h. omega arith) (λ _. refl)
     (λ w. either (eqb c.count 0) (λ t. rw t (is-done (λ h. omega arith) w (λ h. omega arith) []))
     (λ t. rw t (is-done (λ h. omega arith) w (λ h. omega arith) (e ∷ []))))
 
@@ -243,15 +252,15 @@ module _ (k : Call) (c : SeenCache) (st : List ℕ) where
 -- ---- what a call that is done tells, by the entries
 -- a value, where there is one
 abbrev pub beside : Option ℕ → List ℕ
-beside none = []
-beside (some e) = e ∷ []
+beside None = []
+beside (Some e) = e ∷ []
 
-beside-next : (o : Option ℕ) → next_told (next_of o) ≡ done (beside o)
-beside-next none = refl
-beside-next (some e) = refl
+beside-next : (o : Option ℕ) → next_told (Ok o) ≡ done (beside o)
+beside-next None = refl
+beside-next (Some e) = refl
 
 module _ (c : SeenCache) (st : List ℕ) (w : WellFormed c st) where
-  fine : lent_of c st ≡ lent.Fine
+  fine : lent_of c st ≡ Ok tt
   fine = (well_formed-exactly c st).1 w
 
   -- 0 where the id is held, 1 where it is new

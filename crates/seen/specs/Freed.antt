@@ -1,5 +1,5 @@
 -- Freed places are used again: where a fresh id is written.
-use Rattle.std.specs.Prelude.{ℕ, ◌+◌, ◌-◌, ◌*◌, ◌≤◌, ◌<◌, ◌≡◌, refl, List, length}
+use Rattle.std.specs.Prelude.{Ok, ℕ, ◌+◌, ◌-◌, ◌*◌, ◌≤◌, ◌<◌, ◌≡◌, refl, List, length}
 use Rattle.std.proofs.Common.{⊎_elim, ne_eqb}
 use native.Mathlib.Omega.{arith}
 use Rattle.std.proofs.lemmas.List.Edits.{sets}
@@ -7,8 +7,7 @@ use Rattle.rows.specs.declared.Ring.{Ring}
 use Rattle.rows.specs.Rows.{place_of, without}
 use Rattle.rows.specs.RowsLaws.{place_is, place-lt, place-le, place_differs}
 use Rattle.seen.specs.declared.SeenCache.{SeenCache}
-use Rattle.seen.specs.declared.Lent.TheVariants as lent
-use Rattle.seen.specs.declared.Insert.TheVariants as insert
+use Rattle.seen.specs.declared.Entry.TheVariants.{Fresh}
 use Rattle.seen.specs.Entries.{until}
 use Rattle.seen.specs.State.{dropped, appended, id_size, ring_of}
 use Rattle.seen.specs.Calls.{cap_of, lent_of, entered, entered_store, insert_answer, insert_cache, insert_store}
@@ -72,8 +71,8 @@ module _ (cap max : ℕ) (c : SeenCache) (st id : List ℕ) (e : ℕ) (starts : 
       })
 
 -- an insert that is answered fresh
-pub freed-place-used : (max at ttl : ℕ) (c : SeenCache) (st id : List ℕ) → lent_of c st ≡ lent.Fine → (max ≡ 0 → ⊥)
-    → insert_answer max c st id ≡ insert.Fresh
+pub freed-place-used : (max at ttl : ℕ) (c : SeenCache) (st id : List ℕ) → lent_of c st ≡ Ok tt → (max ≡ 0 → ⊥)
+    → insert_answer max c st id ≡ Ok Fresh
     → Written (cap_of st) c (insert_cache max at ttl c st id) st (insert_store max c st id) id
 unfolding insert_cache insert_store
 freed-place-used max at ttl c st id fine some fresh =

@@ -1,14 +1,14 @@
 -- What the calls on a seen cache mean: they do to the entries what the scope says, a refused call changes nothing, and
 -- every state that the calls reach is well formed.
-use Rattle.std.specs.Prelude.{ℕ, zero, suc, ◌-◌, ◌*◌, ◌/◌, ◌%◌, ◌≤◌, ◌≡◌, refl, List, [], ◌∷◌, ◌++◌, true, false, cond, ◌&&◌, ◌↔◌, leb, ltb, eqb}
+use Rattle.std.specs.Prelude.{Some, None, Result, Ok, Err, ℕ, zero, suc, ◌-◌, ◌*◌, ◌/◌, ◌%◌, ◌≤◌, ◌≡◌, refl, List, [], ◌∷◌, ◌++◌, true, false, cond, ◌&&◌, ◌↔◌, leb, ltb, eqb}
 use Rattle.std.proofs.Math.Path.{sym, ap}
 use Rattle.std.proofs.Common.{◌∙◌, arith}
 use Rattle.std.proofs.lemmas.List.{map-append, length-replicate}
-use Rattle.std.proofs.Math.Option.{Option, none, some}
 use Rattle.std.proofs.Math.ListN.{length, drop}
 use Rattle.std.proofs.Math.Seq.{length-sets}
 use borrow.Author.Tests.{leb-true, eqb-true, le-leb, eq-eqb, ne_eqb, le-ltb, ltb-false}
 use Rattle.basis.specs.Cases.{either, clash, both}
+use Rattle.basis.specs.declared.Fault.{Fault}
 use Rattle.rows.specs.Rows.{place_of, rows_in, newest, tab}
 use Rattle.rows.specs.ListLaws.{map-drop}
 use Rattle.rows.specs.Ids.{among, distinct}
@@ -16,14 +16,9 @@ use Rattle.rows.specs.IdsLaws.{distinct-drop, distinct_snoc}
 use Rattle.rows.specs.Store.{ids_in, in_use, all_up_to, Sound}
 use Rattle.rows.specs.StoreLaws.{short_in, short-all, once_in, all_once}
 use Rattle.seen.specs.declared.SeenCache.{SeenCache}
-use Rattle.seen.specs.declared.Lent.{Lent}
-use Rattle.seen.specs.declared.Lent.TheVariants as lent
-use Rattle.seen.specs.declared.Insert.{Insert}
-use Rattle.seen.specs.declared.Insert.TheVariants as insert
-use Rattle.seen.specs.declared.Contains.TheVariants as contains
-use Rattle.seen.specs.declared.Gc.TheVariants as gc
-use Rattle.seen.specs.declared.NextExpiry.{NextExpiry}
-use Rattle.seen.specs.declared.NextExpiry.TheVariants as next
+use Rattle.seen.specs.declared.Entry.{Entry as Found}
+use Rattle.seen.specs.declared.Entry.TheVariants.{Fresh, Held}
+use Rattle.seen.specs.declared.SeenError.{SeenError}
 use Rattle.seen.specs.Entries.{Entry, ids_of, holds, until, inserted, live, front_expiry}
 use Rattle.seen.specs.State.{entries_in, row_at, well_formed, spent, fresh, dropped, id_size, max_ids, ring_of}
 use Rattle.seen.specs.StateLaws.{spent_in, sound-dropped}
@@ -36,7 +31,7 @@ use Rattle.seen.specs.Unique.{Enters}
 use Rattle.seen.specs.WellFormed.{Sized, WellFormed, Reached, begun, recorded, swept}
 
 -- ---- the tests
-fine-tests : (c : SeenCache) (st : List ℕ) → lent_of c st ≡ lent.Fine → (whole_rows st ≡ true)
+fine-tests : (c : SeenCache) (st : List ℕ) → lent_of c st ≡ Ok tt → (whole_rows st ≡ true)
     × (well_formed (cap_of st) c st ≡ true)
 unfolding lent_of
 fine-tests c st h =
@@ -75,7 +70,7 @@ tests cap c st h =
     }
 
 -- a state that passes is sound
-pub lent-sound : (c : SeenCache) (st : List ℕ) → lent_of c st ≡ lent.Fine → Sized c
+pub lent-sound : (c : SeenCache) (st : List ℕ) → lent_of c st ≡ Ok tt → Sized c
     → Sound id_size (ring_of (cap_of st) c) c.len st
 lent-sound c st h z =
     let f = fine-tests c st h in
@@ -90,7 +85,7 @@ lent-sound c st h z =
 -- and what they ask is enough
 fine_of : (c : SeenCache) (st : List ℕ) → whole_rows st ≡ true → c.start ≤ cap_of st → c.count ≤ cap_of st
     → all_up_to id_size (in_use (ring_of (cap_of st) c) c.len) ≡ true
-    → distinct (ids_in id_size (ring_of (cap_of st) c) c.len st) ≡ true → lent_of c st ≡ lent.Fine
+    → distinct (ids_in id_size (ring_of (cap_of st) c) c.len st) ≡ true → lent_of c st ≡ Ok tt
 unfolding lent_of well_formed
 fine_of c st w a b s d = simp (w, le-leb c.start (cap_of st) a, le-leb c.count (cap_of st) b, s, d)
 
@@ -113,7 +108,7 @@ module _ (cap max : ℕ) (c : SeenCache) (st id : List ℕ) (m : max ≤ cap) (k
       → can_enter max (ring_of cap c) (length st) (length id) ≡ true
   sound_enters s f = rows-enter s.rows.starts s.rows.within f s.room
 
-  pub lent_enters : lent_of c st ≡ lent.Fine → cap ≡ cap_of st
+  pub lent_enters : lent_of c st ≡ Ok tt → cap ≡ cap_of st
       → can_enter max (ring_of cap c) (length st) (length id) ≡ true
   lent_enters h e =
       let f = fine-tests c st h in
@@ -128,32 +123,24 @@ pub enters_can : (cap max e : ℕ) (c : SeenCache) (st id : List ℕ) (r : SeenC
 enters_can cap max e c st id r left y h = (rw y at h.cache, rw y at h.store)
 
 -- ---- only a fresh id changes anything
-pub not-fresh-stays : (max at ttl : ℕ) (c : SeenCache) (st id : List ℕ) (a : Insert) → insert_answer max c st id ≡ a
-    → (a ≡ insert.Fresh → ⊥)
+pub not-fresh-stays : (max at ttl : ℕ) (c : SeenCache) (st id : List ℕ) (a : Result Found SeenError) → insert_answer max c st id ≡ a
+    → (a ≡ Ok Fresh → ⊥)
     → (insert_cache max at ttl c st id ≡ c) × (insert_store max c st id ≡ st)
 unfolding insert_cache insert_store
-not-fresh-stays max at ttl c st id insert.Fresh e n = absurd (n refl)
-not-fresh-stays max at ttl c st id insert.Held e n = (rw e, rw e)
-not-fresh-stays max at ttl c st id insert.BadSetting e n = (rw e, rw e)
-not-fresh-stays max at ttl c st id insert.BadStore e n = (rw e, rw e)
-not-fresh-stays max at ttl c st id insert.Malformed e n = (rw e, rw e)
-not-fresh-stays max at ttl c st id (insert.TooLong k) e n = (rw e, rw e)
+not-fresh-stays max at ttl c st id (Ok Fresh) e n = absurd (n refl)
+not-fresh-stays max at ttl c st id (Ok Held) e n = (rw e, rw e)
+not-fresh-stays max at ttl c st id (Err _) e n = (rw e, rw e)
 
 -- ---- the calls on the entries
--- the answer for a front's expiry
-abbrev pub next_of : Option ℕ → NextExpiry
-next_of none = next.None
-next_of (some e) = next.At e
-
-front_of : (f : ℕ → Entry) (n : ℕ) → cond (eqb n 0) next.None (next.At (f 0).expiry) ≡ next_of (front_expiry (tab f n))
+front_of : (f : ℕ → Entry) (n : ℕ) → cond (eqb n 0) None (Some (f 0).expiry) ≡ front_expiry (tab f n)
 unfolding front_expiry
 front_of f zero = refl
 front_of f (suc n) = rw (ne_eqb (suc n) 0 (λ e. omega arith))
 
-module _ (c : SeenCache) (st : List ℕ) (fine : lent_of c st ≡ lent.Fine) where
+module _ (c : SeenCache) (st : List ℕ) (fine : lent_of c st ≡ Ok tt) where
   -- an id is held or fresh
   pub insert_says : (max : ℕ) (id : List ℕ) → max ≤ cap_of st → length id ≤ id_size
-      → insert_answer max c st id ≡ cond (holds id (entries_in (cap_of st) c st)) insert.Held insert.Fresh
+      → insert_answer max c st id ≡ Ok (cond (holds id (entries_in (cap_of st) c st)) Held Fresh)
   unfolding insert_answer
   insert_says max id m k =
       rw (le-ltb (cap_of st) max m, fine, le-ltb id_size (length id) k, holds-entries (cap_of st) c st id)
@@ -169,7 +156,7 @@ module _ (c : SeenCache) (st : List ℕ) (fine : lent_of c st ≡ lent.Fine) whe
       (λ t. rw (says, t) (entries-entered (cap_of st) max c st id (until at ttl) (lent-sound c st fine z) z m k))
 
   pub contains_says : (id : List ℕ) → length id ≤ id_size
-      → contains_answer c st id ≡ cond (holds id (entries_in (cap_of st) c st)) contains.Yes contains.No
+      → contains_answer c st id ≡ Ok (holds id (entries_in (cap_of st) c st))
   unfolding contains_answer
   contains_says id k = rw (fine, le-ltb id_size (length id) k, holds-entries (cap_of st) c st id)
 
@@ -180,16 +167,16 @@ module _ (c : SeenCache) (st : List ℕ) (fine : lent_of c st ≡ lent.Fine) whe
       rw fine (entries-cleaned (cap_of st) at c st t.starts t.within)
 
   -- how many are left
-  pub gc_says : (at : ℕ) → gc_answer at c st ≡ gc.Left (length (live at (entries_in (cap_of st) c st)))
+  pub gc_says : (at : ℕ) → gc_answer at c st ≡ Ok (length (live at (entries_in (cap_of st) c st)))
   unfolding gc_answer
   gc_says at =
       let t = tests (cap_of st) c st (fine-tests c st fine).1 in
-      rw fine (ap gc.Left (sym (length-entries (cap_of st) (cleaned (cap_of st) at c) st)
+      rw fine (ap Ok (sym (length-entries (cap_of st) (cleaned (cap_of st) at c) st)
       ∙ ap length (entries-cleaned (cap_of st) at c st t.starts t.within)))
 
-  pub next-says : next_answer c st ≡ next_of (front_expiry (entries_in (cap_of st) c st))
+  pub next-says : next_answer c st ≡ Ok (front_expiry (entries_in (cap_of st) c st))
   unfolding next_answer entries_in rows_in row_at
-  next-says = rw fine (front_of (λ (i : ℕ). row_at c st (place_of (ring_of (cap_of st) c) i)) c.count)
+  next-says = rw fine (ap Ok (front_of (λ (i : ℕ). row_at c st (place_of (ring_of (cap_of st) c) i)) c.count))
 
 -- ---- a refused call changes nothing
 pub refused-unchanged : (max at ttl : ℕ) (c : SeenCache) (st id : List ℕ)
@@ -198,12 +185,11 @@ pub refused-unchanged : (max at ttl : ℕ) (c : SeenCache) (st id : List ℕ)
 refused-unchanged max at ttl c st id n = not-fresh-stays max at ttl c st id (insert_answer max c st id) refl
     (λ e. n (ap insert_number e))
 
-not-fine-stays : (at : ℕ) (c : SeenCache) (st : List ℕ) (l : Lent) → lent_of c st ≡ l
+not-fine-stays : (at : ℕ) (c : SeenCache) (st : List ℕ) (l : Result (Unit {0}) Fault) → lent_of c st ≡ l
     → (gc_number (gc_answer at c st) ≡ 0 → ⊥) → gc_cache at c st ≡ c
 unfolding gc_cache gc_answer
-not-fine-stays at c st lent.Fine e n = absurd (n (rw e))
-not-fine-stays at c st lent.BadStore e n = rw e
-not-fine-stays at c st lent.Malformed e n = rw e
+not-fine-stays at c st (Ok _) e n = absurd (n (rw e))
+not-fine-stays at c st (Err _) e n = rw e
 
 -- a clean-up is not given the store to write
 pub refused-unchanged_gc : (at : ℕ) (c : SeenCache) (st : List ℕ) → (gc_number (gc_answer at c st) ≡ 0 → ⊥)
@@ -211,10 +197,10 @@ pub refused-unchanged_gc : (at : ℕ) (c : SeenCache) (st : List ℕ) → (gc_nu
 refused-unchanged_gc at c st n = not-fine-stays at c st (lent_of c st) refl n
 
 -- ---- well formed, exactly
-pub well_formed-exactly : (c : SeenCache) (st : List ℕ) → (lent_of c st ≡ lent.Fine) ↔ WellFormed c st
+pub well_formed-exactly : (c : SeenCache) (st : List ℕ) → (lent_of c st ≡ Ok tt) ↔ WellFormed c st
 well_formed-exactly c st = (forth, back)
   where
-    forth : lent_of c st ≡ lent.Fine → WellFormed c st
+    forth : lent_of c st ≡ Ok tt → WellFormed c st
     forth h =
         let f = fine-tests c st h in
         let w = whole_room st f.0 in
@@ -228,7 +214,7 @@ well_formed-exactly c st = (forth, back)
           once = once_in id_size c.len st (ring_of (cap_of st) c) t.once;
         }
 
-    back : WellFormed c st → lent_of c st ≡ lent.Fine
+    back : WellFormed c st → lent_of c st ≡ Ok tt
     back w =
         fine_of c st (rows_whole st w.whole w.few) w.starts w.within
         (short-all id_size c.len (ring_of (cap_of st) c) w.short)
@@ -236,12 +222,12 @@ well_formed-exactly c st = (forth, back)
 
 -- ---- every state that the calls reach is well formed
 sound-fine : (c : SeenCache) (st : List ℕ) → whole_rows st ≡ true → Sound id_size (ring_of (cap_of st) c) c.len st
-    → distinct (ids_in id_size (ring_of (cap_of st) c) c.len st) ≡ true → lent_of c st ≡ lent.Fine
+    → distinct (ids_in id_size (ring_of (cap_of st) c) c.len st) ≡ true → lent_of c st ≡ Ok tt
 sound-fine c st w s d =
     let r = s.rows in
     fine_of c st w r.starts r.within (short-all id_size c.len (ring_of (cap_of st) c) s.short) d
 
-pub fresh-fine : (st : List ℕ) → whole_rows st ≡ true → lent_of fresh st ≡ lent.Fine
+pub fresh-fine : (st : List ℕ) → whole_rows st ≡ true → lent_of fresh st ≡ Ok tt
 unfolding fresh ids_in in_use rows_in all_up_to distinct
 fresh-fine st h = fine_of fresh st h (omega arith) (omega arith) refl refl
 
@@ -250,8 +236,8 @@ unfolding fresh
 fresh-sized = (length-replicate {A = ℕ} max_ids 0, length-replicate {A = ℕ} max_ids 0)
 
 -- what a fresh answer tells
-pub fresh-tests : (max : ℕ) (c : SeenCache) (st id : List ℕ) → lent_of c st ≡ lent.Fine
-    → insert_answer max c st id ≡ insert.Fresh → (max ≤ cap_of st) × (length id ≤ id_size)
+pub fresh-tests : (max : ℕ) (c : SeenCache) (st id : List ℕ) → lent_of c st ≡ Ok tt
+    → insert_answer max c st id ≡ Ok Fresh → (max ≤ cap_of st) × (length id ≤ id_size)
     × (held_in (cap_of st) c st id ≡ false)
 unfolding insert_answer
 fresh-tests max c st id f h =
@@ -273,15 +259,12 @@ length-entered : (cap max : ℕ) (c : SeenCache) (st id : List ℕ) → length (
 unfolding entered_store
 length-entered cap max c st id = either (eqb max 0) (λ t. rw t) (λ t. rw t (length-sets st _ id))
 
-length-by : (max : ℕ) (c : SeenCache) (st id : List ℕ) (a : Insert) → insert_answer max c st id ≡ a
+length-by : (max : ℕ) (c : SeenCache) (st id : List ℕ) (a : Result Found SeenError) → insert_answer max c st id ≡ a
     → length (insert_store max c st id) ≡ length st
 unfolding insert_store
-length-by max c st id insert.Fresh e = rw e (length-entered (cap_of st) max c st id)
-length-by max c st id insert.Held e = rw e
-length-by max c st id insert.BadSetting e = rw e
-length-by max c st id insert.BadStore e = rw e
-length-by max c st id insert.Malformed e = rw e
-length-by max c st id (insert.TooLong n) e = rw e
+length-by max c st id (Ok Fresh) e = rw e (length-entered (cap_of st) max c st id)
+length-by max c st id (Ok Held) e = rw e
+length-by max c st id (Err _) e = rw e
 
 pub insert_length : (max : ℕ) (c : SeenCache) (st id : List ℕ) → (length (insert_store max c st id) ≡ length st)
     × (cap_of (insert_store max c st id) ≡ cap_of st)
@@ -300,9 +283,9 @@ distinct-newest max es x d n =
     )
     (distinct-drop (length (es ++ (x ∷ [])) - max) (ids_of es ++ (x.id ∷ [])) (distinct_snoc (ids_of es) x.id d n))
 
-entered-fine : (max e : ℕ) (c : SeenCache) (st id : List ℕ) → lent_of c st ≡ lent.Fine → Sized c → max ≤ cap_of st
+entered-fine : (max e : ℕ) (c : SeenCache) (st id : List ℕ) → lent_of c st ≡ Ok tt → Sized c → max ≤ cap_of st
     → length id ≤ id_size → held_in (cap_of st) c st id ≡ false
-    → lent_of (entered (cap_of st) max (length id) e c) (entered_store (cap_of st) max c st id) ≡ lent.Fine
+    → lent_of (entered (cap_of st) max (length id) e c) (entered_store (cap_of st) max c st id) ≡ Ok tt
 unfolding held_in
 entered-fine max e c st id f z m k n =
     let cap = cap_of st in
@@ -320,33 +303,30 @@ entered-fine max e c st id f z m k n =
     sound-fine c2 st2 (same_whole st st2 l ∙ (fine-tests c st f).0) (rw same (sound-entered cap max c st id e s z m k))
     (rw same o)
 
-insert_by : (max at ttl : ℕ) (c : SeenCache) (st id : List ℕ) → lent_of c st ≡ lent.Fine → Sized c → (a : Insert)
+insert_by : (max at ttl : ℕ) (c : SeenCache) (st id : List ℕ) → lent_of c st ≡ Ok tt → Sized c → (a : Result Found SeenError)
     → insert_answer max c st id ≡ a
-    → (lent_of (insert_cache max at ttl c st id) (insert_store max c st id) ≡ lent.Fine)
+    → (lent_of (insert_cache max at ttl c st id) (insert_store max c st id) ≡ Ok tt)
     × Sized (insert_cache max at ttl c st id)
 unfolding insert_cache insert_store
-insert_by max at ttl c st id f z insert.Fresh e =
+insert_by max at ttl c st id f z (Ok Fresh) e =
     let t = fresh-tests max c st id f e in
     rw e (
       entered-fine max (until at ttl) c st id f z t.0 t.1 t.2,
       sized-entered (cap_of st) max c st id (until at ttl) (lent-sound c st f z) z t.0 t.1,
     )
-insert_by max at ttl c st id f z insert.Held e = rw e (f, z)
-insert_by max at ttl c st id f z insert.BadSetting e = rw e (f, z)
-insert_by max at ttl c st id f z insert.BadStore e = rw e (f, z)
-insert_by max at ttl c st id f z insert.Malformed e = rw e (f, z)
-insert_by max at ttl c st id f z (insert.TooLong n) e = rw e (f, z)
+insert_by max at ttl c st id f z (Ok Held) e = rw e (f, z)
+insert_by max at ttl c st id f z (Err _) e = rw e (f, z)
 
-module _ (c : SeenCache) (st : List ℕ) (f : lent_of c st ≡ lent.Fine) (z : Sized c) where
+module _ (c : SeenCache) (st : List ℕ) (f : lent_of c st ≡ Ok tt) (z : Sized c) where
   -- whatever is asked, refused inserts too
   pub insert_fine : (max at ttl : ℕ) (id : List ℕ) → lent_of (insert_cache max at ttl c st id) (insert_store max c st id)
-      ≡ lent.Fine
+      ≡ Ok tt
   insert_fine max at ttl id = (insert_by max at ttl c st id f z (insert_answer max c st id) refl).0
 
   pub insert_sized : (max at ttl : ℕ) (id : List ℕ) → Sized (insert_cache max at ttl c st id)
   insert_sized max at ttl id = (insert_by max at ttl c st id f z (insert_answer max c st id) refl).1
 
-  pub gc_fine : (at : ℕ) → lent_of (gc_cache at c st) st ≡ lent.Fine
+  pub gc_fine : (at : ℕ) → lent_of (gc_cache at c st) st ≡ Ok tt
   unfolding gc_cache cleaned
   gc_fine at =
       let cap = cap_of st in
@@ -365,7 +345,7 @@ module _ (c : SeenCache) (st : List ℕ) (f : lent_of c st ≡ lent.Fine) (z : S
   unfolding gc_cache cleaned dropped
   gc_sized at = rw f z
 
-reached_both : {c : SeenCache} {st : List ℕ} → Reached c st → (lent_of c st ≡ lent.Fine) × Sized c
+reached_both : {c : SeenCache} {st : List ℕ} → Reached c st → (lent_of c st ≡ Ok tt) × Sized c
 reached_both (begun st h) = (fresh-fine st h, fresh-sized)
 reached_both (recorded {c} {st} r max at ttl id) = let b = reached_both r in
     (insert_fine c st b.0 b.1 max at ttl id, insert_sized c st b.0 b.1 max at ttl id)
@@ -382,7 +362,7 @@ unfolding live
 equal_expires at e es h = rw (le-leb e.expiry at (omega arith))
 
 -- an insert of a held id changes nothing, also where max is smaller than the count
-pub held_stays : (max at ttl : ℕ) (c : SeenCache) (st id : List ℕ) → lent_of c st ≡ lent.Fine
+pub held_stays : (max at ttl : ℕ) (c : SeenCache) (st id : List ℕ) → lent_of c st ≡ Ok tt
     → holds id (entries_in (cap_of st) c st) ≡ true
     → (insert_cache max at ttl c st id ≡ c) × (insert_store max c st id ≡ st)
 held_stays max at ttl c st id f h =

@@ -1,11 +1,12 @@
 -- The contract of each call that answers and leaves something, as a record of what it says of the answer, the cache
 -- that comes back and the lent store; and that it leaves no choice: two results that meet it are the same.
-use Rattle.std.specs.Prelude.{ℕ, ◌≡◌, cond, List, length}
+use Rattle.std.specs.Prelude.{Result, ℕ, ◌≡◌, cond, List, length}
 use Rattle.std.proofs.Common.{sym, ap₂, ◌∙◌}
+use Rattle.basis.specs.declared.Fault.{Fault}
 use Rattle.seen.specs.declared.SeenCache.{SeenCache}
-use Rattle.seen.specs.declared.Insert.{Insert}
+use Rattle.seen.specs.declared.Entry.{Entry}
+use Rattle.seen.specs.declared.SeenError.{SeenError}
 use Rattle.seen.specs.declared.Inserted.{Inserted}
-use Rattle.seen.specs.declared.Gc.{Gc}
 use Rattle.seen.specs.declared.Cleaned.{Cleaned}
 use Rattle.seen.specs.State.{ring_of}
 use Rattle.seen.specs.Calls.{can_enter, entered, entered_store, insert_answer, insert_cache, insert_store, gc_answer}
@@ -20,7 +21,7 @@ pub record Inserts (max at ttl : ℕ) (c : SeenCache) (st id : List ℕ) (r : In
 pub one_insert : (max at ttl : ℕ) (c : SeenCache) (st id : List ℕ) (r s : Inserted) (left left2 : List ℕ)
     → Inserts max at ttl c st id r left → Inserts max at ttl c st id s left2 → (r ≡ s) × (left ≡ left2)
 one_insert max at ttl c st id r s left left2 a b = (
-  ap₂ (λ (x : Insert) (d : SeenCache). record { answer = x; cache = d }) (a.answer ∙ sym b.answer)
+  ap₂ (λ (x : Result Entry SeenError) (d : SeenCache). record { answer = x; cache = d }) (a.answer ∙ sym b.answer)
       (a.cache ∙ sym b.cache),
   a.store ∙ sym b.store,
 )
@@ -32,7 +33,7 @@ pub record Cleans (at : ℕ) (c : SeenCache) (st : List ℕ) (r : Cleaned) : Typ
 
 pub one_gc : (at : ℕ) (c : SeenCache) (st : List ℕ) (r s : Cleaned) → Cleans at c st r → Cleans at c st s → r ≡ s
 one_gc at c st r s a b =
-    ap₂ (λ (x : Gc) (d : SeenCache). record { answer = x; cache = d }) (a.answer ∙ sym b.answer)
+    ap₂ (λ (x : Result ℕ Fault) (d : SeenCache). record { answer = x; cache = d }) (a.answer ∙ sym b.answer)
     (a.cache ∙ sym b.cache)
 
 -- an id enters where it can; otherwise nothing changes

@@ -10,10 +10,11 @@ ghost use Rattle.rows.specs.Rows.{place_of};
 ghost use Rattle.rows.specs.Store.{InStore, in_use};
 ghost use Rattle.seen.specs.Entries.{until};
 ghost use Rattle.seen.specs.State.{id_size, ring_of, spent, fresh, dropped, appended};
-ghost use Rattle.seen.specs.Calls.{lent_of, held_in, cleaned, can_enter, contains_answer, next_answer};
+ghost use Rattle.seen.specs.Calls.{faulty, lent_of, held_in, cleaned, can_enter, insert_answer, contains_answer, next_answer};
 ghost use Rattle.seen.specs.Unique.{Enters, Inserts, Cleans};
 
-use rows::{Ring, all_within, find_from, ids_differ, minus, number_at, place};
+use basis::Fault;
+use rows::{Ring, Store, all_within, at_or, place};
 
 pub const ID_SIZE: usize = 129;
 
@@ -27,107 +28,75 @@ pub struct SeenCache {
     pub len: [u8; MAX_IDS],
 }
 
-// Whether the lent state is one: 41 for a store that is no whole rows or has more than 256, 42 for a cache that is not well formed.
+// Why a call on an id did nothing: what is wrong with the lent state; or the id has so many bytes, more than a row (refusal 33).
 #[derive(Clone, Copy)]
-pub enum Lent {
-    Fine,
-    BadStore,
-    Malformed,
+pub enum SeenError {
+    Fault(Fault),
+    TooLong(usize),
 }
 
+impl From<Fault> for SeenError {
+    ghost from_gives = { λ f e. e ≡ faulty f };
+
+    fn from(fault: Fault) -> SeenError {
+        SeenError::Fault(fault)
+    }
+}
+
+// What an insert finds of its id.
 #[derive(Clone, Copy)]
-pub enum Insert {
+pub enum Entry {
     Fresh,
     Held,
-    BadSetting,
-    BadStore,
-    Malformed,
-    TooLong(usize),
 }
 
 #[derive(Clone, Copy)]
 pub struct Inserted {
-    pub answer: Insert,
+    pub answer: Result<Entry, SeenError>,
     pub cache: SeenCache,
-}
-
-#[derive(Clone, Copy)]
-pub enum Contains {
-    Yes,
-    No,
-    BadStore,
-    Malformed,
-    TooLong(usize),
 }
 
 // How many are left.
 #[derive(Clone, Copy)]
-pub enum Gc {
-    Left(usize),
-    BadStore,
-    Malformed,
-}
-
-#[derive(Clone, Copy)]
 pub struct Cleaned {
-    pub answer: Gc,
+    pub answer: Result<usize, Fault>,
     pub cache: SeenCache,
 }
 
-#[derive(Clone, Copy)]
-pub enum NextExpiry {
-    None,
-    At(u64),
-    BadStore,
-    Malformed,
-}
-
 // now + ttl, stopping at the largest.
+#[tactic(auto, unfolding(crate::specs::Entries::until))]
 pub fn expiry_of(at: u64, ttl: u64) -> u64
     ensures { result ≡ until at ttl }
 {
-    if ttl <= u64::MAX - at {
-        return at + ttl;
-    }
-    u64::MAX
+    at.saturating_add(ttl)
 }
 
 // How many of the oldest have expired: those in front of the first that has not.
+#[tactic(auto, using(rows::specs::RowsLaws::walked), unfolding(crate::specs::State::spent, rows::specs::Store::in_use))]
 fn expired(expiry: &[u64], ring: Ring, at: u64) -> usize
     ensures { result ≡ spent at (in_use ring expiry.now) }
 {
-    let mut i = 0;
-    while i < ring.count {
+    for i in 0..ring.count {
         let p = place(ring, i);
-        if at < number_at(expiry, p) {
+        if at < at_or(expiry, p, 0) {
             return i;
         }
-        i += 1;
     }
-    i
+    ring.count
 }
 
 // Whether a row can be put: the rows in use lie in the arrays and in a store of `room` bytes, at most `max` of them are to be, and an id of n bytes
 // fits a row.
+#[tactic(auto, using(std::proofs::lemmas::Bool::Decides::nat_tests), unfolding(crate::specs::Calls::can_enter))]
 fn can_enter(ring: Ring, max: usize, room: usize, n: usize) -> bool
     ensures { result ≡ can_enter max ring room n }
 {
-    if ring.cap < ring.start {
-        return false;
-    }
-    if ring.cap < ring.count {
-        return false;
-    }
-    if MAX_IDS < ring.cap {
-        return false;
-    }
-    if room < ring.cap * ID_SIZE {
-        return false;
-    }
-    if ring.cap < max {
-        return false;
-    }
-    n <= ID_SIZE
+    ring.start <= ring.cap
+        && ring.count <= ring.cap
+        && ring.cap <= MAX_IDS
+        && ring.cap * ID_SIZE <= room
+        && max <= ring.cap
+        && n <= ID_SIZE
 }
 
 // Writes an id into the store from `at` on.
@@ -140,6 +109,7 @@ fn write_id(store: &mut [u8], at: usize, id: &[u8])
 
 impl SeenCache {
     // A cache that holds nothing.
+    #[tactic(auto, unfolding(crate::specs::State::fresh))]
     pub fn new() -> Self
         ensures { result ≡ fresh }
     {
@@ -162,34 +132,34 @@ impl SeenCache {
         }
     }
 
-    // Whether a store and the cache can be used together.
-    pub fn lent(self, store: &[u8]) -> Lent
+    // Whether a store and the cache can be used together: 41 for a store that is no whole rows or has more than 256, 42 for a cache that is not
+    // well formed.
+    #[tactic(auto, using(std::proofs::lemmas::Bool::Decides::nat_tests), unfolding(crate::specs::Calls::lent_of, crate::specs::Calls::whole_rows, crate::specs::Calls::cap_of, crate::specs::State::well_formed))]
+    pub fn lent(self, store: &[u8]) -> Result<(), Fault>
         ensures { result ≡ lent_of self store.now }
     {
         let cap = store.len() / ID_SIZE;
-        if store.len() % ID_SIZE != 0 {
-            return Lent::BadStore;
+        if store.len() % ID_SIZE != 0 || MAX_IDS < cap {
+            return Err(Fault::BadStore);
         }
-        if MAX_IDS < cap {
-            return Lent::BadStore;
-        }
-        if cap < self.start {
-            return Lent::Malformed;
-        }
-        if cap < self.count {
-            return Lent::Malformed;
+        if cap < self.start || cap < self.count {
+            return Err(Fault::Malformed);
         }
         let ring = self.ring(cap);
         let lens = self.len;
-        if all_within(&lens, ring, ID_SIZE as u8) {
-            if ids_differ(&lens, store, ID_SIZE, ring) {
-                return Lent::Fine;
-            }
+        let ids = Store {
+            lens: &lens,
+            ids: store,
+            size: ID_SIZE,
+        };
+        if all_within(&lens, ring, ID_SIZE as u8) && ids.differ(ring) {
+            return Ok(());
         }
-        Lent::Malformed
+        Err(Fault::Malformed)
     }
 
     // Without the k oldest.
+    #[tactic(auto, unfolding(crate::specs::State::dropped))]
     fn without(mut self, cap: usize, k: usize) -> Self
         requires { k ≤ self.count }
         ensures { result ≡ dropped cap k self }
@@ -224,10 +194,16 @@ impl SeenCache {
     {
         let ring = self.ring(cap);
         let lens = self.len;
-        find_from(&lens, store, ID_SIZE, ring, 0, id) < ring.count
+        let ids = Store {
+            lens: &lens,
+            ids: store,
+            size: ID_SIZE,
+        };
+        ids.find_from(ring, 0, id) < ring.count
     }
 
     // Without what has expired, in a state that need not be tested.
+    #[tactic(auto, using(crate::specs::StateLaws::spent_in), unfolding(crate::specs::Calls::cleaned))]
     pub fn clean(self, cap: usize, at: u64) -> Self
         ensures { result ≡ cleaned cap at self }
     {
@@ -246,11 +222,25 @@ impl SeenCache {
             if max == 0 {
                 return self.without(cap, count);
             }
-            let k = minus(count + 1, max);
+            let k = (count + 1).saturating_sub(max);
             let rest = self.without(cap, k);
             return rest.append(store, cap, id, expires);
         }
         self
+    }
+
+    // What an insert answers.
+    #[tactic(auto, using(std::proofs::lemmas::Bool::Decides::nat_tests), unfolding(crate::specs::Calls::insert_answer, crate::specs::Calls::contains_answer, crate::specs::Calls::cap_of))]
+    fn entry(self, store: &[u8], id: &[u8], max_entries: usize) -> Result<Entry, SeenError>
+        ensures { result ≡ insert_answer max_entries self store.now id.now }
+    {
+        if store.len() / ID_SIZE < max_entries {
+            return Err(SeenError::Fault(Fault::BadSetting));
+        }
+        if self.contains(store, id)? {
+            return Ok(Entry::Held);
+        }
+        Ok(Entry::Fresh)
     }
 
     // Records an id; the oldest leave until at most `max_entries` remain.
@@ -264,105 +254,61 @@ impl SeenCache {
     ) -> Inserted
         ensures { Inserts max_entries at ttl self store.old id.now result store.new }
     {
-        let cap = store.len() / ID_SIZE;
-        if cap < max_entries {
-            return Inserted {
-                answer: Insert::BadSetting,
-                cache: self,
-            };
+        let answer = self.entry(store, id, max_entries);
+        if let Ok(Entry::Fresh) = answer {
+            let cap = store.len() / ID_SIZE;
+            let expires = expiry_of(at, ttl);
+            let cache = self.enter(store, cap, id, expires, max_entries);
+            return Inserted { answer, cache };
         }
-        let lent = self.lent(store);
-        match lent {
-            Lent::BadStore => Inserted {
-                answer: Insert::BadStore,
-                cache: self,
-            },
-            Lent::Malformed => Inserted {
-                answer: Insert::Malformed,
-                cache: self,
-            },
-            Lent::Fine => {
-                if ID_SIZE < id.len() {
-                    return Inserted {
-                        answer: Insert::TooLong(id.len()),
-                        cache: self,
-                    };
-                }
-                if self.holds(store, cap, id) {
-                    return Inserted {
-                        answer: Insert::Held,
-                        cache: self,
-                    };
-                }
-                let expires = expiry_of(at, ttl);
-                let cache = self.enter(store, cap, id, expires, max_entries);
-                Inserted {
-                    answer: Insert::Fresh,
-                    cache,
-                }
-            }
+        Inserted {
+            answer,
+            cache: self,
         }
     }
 
     // Whether an id is held.
-    pub fn contains(self, store: &[u8], id: &[u8]) -> Contains
+    #[tactic(auto, using(std::proofs::lemmas::Bool::Decides::nat_tests), unfolding(crate::specs::Calls::contains_answer, crate::specs::Calls::cap_of))]
+    pub fn contains(self, store: &[u8], id: &[u8]) -> Result<bool, SeenError>
         ensures { result ≡ contains_answer self store.now id.now }
     {
-        let lent = self.lent(store);
-        match lent {
-            Lent::BadStore => Contains::BadStore,
-            Lent::Malformed => Contains::Malformed,
-            Lent::Fine => {
-                if ID_SIZE < id.len() {
-                    return Contains::TooLong(id.len());
-                }
-                if self.holds(store, store.len() / ID_SIZE, id) {
-                    return Contains::Yes;
-                }
-                Contains::No
-            }
+        self.lent(store)?;
+        if ID_SIZE < id.len() {
+            return Err(SeenError::TooLong(id.len()));
         }
+        Ok(self.holds(store, store.len() / ID_SIZE, id))
     }
 
     // Drops from the front while the expiry is at most `at`.
+    #[tactic(auto, unfolding(crate::specs::Calls::gc_answer, crate::specs::Calls::gc_cache, crate::specs::Calls::cap_of))]
     pub fn gc(self, store: &[u8], at: u64) -> Cleaned
         ensures { Cleans at self store.now result }
     {
-        let lent = self.lent(store);
-        match lent {
-            Lent::BadStore => Cleaned {
-                answer: Gc::BadStore,
-                cache: self,
-            },
-            Lent::Malformed => Cleaned {
-                answer: Gc::Malformed,
-                cache: self,
-            },
-            Lent::Fine => {
+        match self.lent(store) {
+            Ok(()) => {
                 let cache = self.clean(store.len() / ID_SIZE, at);
                 Cleaned {
-                    answer: Gc::Left(cache.count),
+                    answer: Ok(cache.count),
                     cache,
                 }
             }
+            Err(fault) => Cleaned {
+                answer: Err(fault),
+                cache: self,
+            },
         }
     }
 
     // The expiry of the oldest.
-    pub fn next_expiry(self, store: &[u8]) -> NextExpiry
+    #[tactic(auto, using(std::proofs::lemmas::Bool::Decides::nat_tests), unfolding(crate::specs::Calls::next_answer, crate::specs::Calls::cap_of))]
+    pub fn next_expiry(self, store: &[u8]) -> Result<Option<u64>, Fault>
         ensures { result ≡ next_answer self store.now }
     {
-        let lent = self.lent(store);
-        match lent {
-            Lent::BadStore => NextExpiry::BadStore,
-            Lent::Malformed => NextExpiry::Malformed,
-            Lent::Fine => {
-                if self.count == 0 {
-                    return NextExpiry::None;
-                }
-                let p = place(self.ring(store.len() / ID_SIZE), 0);
-                NextExpiry::At(self.expiry[p])
-            }
+        self.lent(store)?;
+        if self.count == 0 {
+            return Ok(None);
         }
+        let p = place(self.ring(store.len() / ID_SIZE), 0);
+        Ok(Some(self.expiry[p]))
     }
 }

@@ -208,10 +208,7 @@ fn lend(
     }
     let seen_len = little_at(content, 0, 4) as usize;
     let cache_len = little_at(content, 4, 4) as usize;
-    if most < seen_len {
-        return stop(run, b"bad\n");
-    }
-    if most_cache < cache_len {
+    if most < seen_len || most_cache < cache_len {
         return stop(run, b"bad\n");
     }
     run.seen_len = seen_len;
@@ -222,7 +219,6 @@ fn lend(
 fn set_byte(store: &mut [u8], p: usize, value: u8) {
     if p < store.len() {
         store[p] = value;
-        return;
     }
 }
 

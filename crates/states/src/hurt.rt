@@ -7,111 +7,51 @@ use node::Node;
 use seen::SeenCache;
 
 fn hurt_seen(mut seen: SeenCache, what: u64, p: usize, value: u64) -> SeenCache {
-    if what == 3 {
-        seen.start = value as usize;
-        return seen;
-    }
-    if what == 4 {
-        seen.count = value as usize;
-        return seen;
-    }
-    if p < 256 {
-        if what == 5 {
-            seen.expiry[p] = value;
-            return seen;
-        }
-        seen.len[p] = (value % 256) as u8;
+    match what {
+        3 => seen.start = value as usize,
+        4 => seen.count = value as usize,
+        5 if p < 256 => seen.expiry[p] = value,
+        6 if p < 256 => seen.len[p] = (value % 256) as u8,
+        _ => {}
     }
     seen
 }
 
-fn hurt_topics(mut cache: MessageCache, what: u64, p: usize, value: u64) -> MessageCache {
-    if what == 19 {
-        cache.topic_count[p % 64] = (value % 256) as u8;
-        return cache;
-    }
-    if what == 20 {
-        cache.topic_start[p % 256] = (value % 65536) as u16;
-        return cache;
-    }
-    cache.topic_len[p % 256] = (value % 65536) as u16;
-    cache
-}
-
 fn hurt_rows(mut cache: MessageCache, what: u64, p: usize, value: u64) -> MessageCache {
-    if what == 12 {
-        cache.generation[p % 64] = value;
-        return cache;
+    match what {
+        12 => cache.generation[p % 64] = value,
+        13 => cache.window[p % 64] = (value % 256) as u8,
+        14 => cache.len[p % 64] = (value % 65536) as u16,
+        15 => cache.id_len[p % 64] = (value % 256) as u8,
+        19 => cache.topic_count[p % 64] = (value % 256) as u8,
+        20 => cache.topic_start[p % 256] = (value % 65536) as u16,
+        21 => cache.topic_len[p % 256] = (value % 65536) as u16,
+        _ => cache.ids[p % 8192] = (value % 256) as u8,
     }
-    if what == 13 {
-        cache.window[p % 64] = (value % 256) as u8;
-        return cache;
-    }
-    if what == 14 {
-        cache.len[p % 64] = (value % 65536) as u16;
-        return cache;
-    }
-    if what == 15 {
-        cache.id_len[p % 64] = (value % 256) as u8;
-        return cache;
-    }
-    if 18 < what {
-        if what < 22 {
-            return hurt_topics(cache, what, p, value);
-        }
-    }
-    cache.ids[p % 8192] = (value % 256) as u8;
     cache
 }
 
 fn hurt_cache(mut cache: MessageCache, what: u64, p: usize, value: u64) -> MessageCache {
-    if what == 7 {
-        cache.history_len = value as usize;
-        return cache;
+    match what {
+        7 => cache.history_len = value as usize,
+        8 => cache.max_messages = value as usize,
+        9 => cache.next_generation = value,
+        10 => cache.start = value as usize,
+        11 => cache.count = value as usize,
+        22 => cache.flags = value as usize,
+        _ => return hurt_rows(cache, what, p, value),
     }
-    if what == 8 {
-        cache.max_messages = value as usize;
-        return cache;
-    }
-    if what == 9 {
-        cache.next_generation = value;
-        return cache;
-    }
-    if what == 10 {
-        cache.start = value as usize;
-        return cache;
-    }
-    if what == 11 {
-        cache.count = value as usize;
-        return cache;
-    }
-    if what == 22 {
-        cache.flags = value as usize;
-        return cache;
-    }
-    hurt_rows(cache, what, p, value)
+    cache
 }
 
 // With one number set.
 pub(crate) fn hurt(mut node: Node, what: u64, p: usize, value: u64) -> Node {
-    if what == 0 {
-        node.ttl = value;
-        return node;
+    match what {
+        0 => node.ttl = value,
+        1 => node.max_seen = value as usize,
+        2 => node.clock = value,
+        3..=6 => node.seen = hurt_seen(node.seen, what, p, value),
+        _ => node.cache = hurt_cache(node.cache, what, p, value),
     }
-    if what == 1 {
-        node.max_seen = value as usize;
-        return node;
-    }
-    if what == 2 {
-        node.clock = value;
-        return node;
-    }
-    let seen = node.seen;
-    let cache = node.cache;
-    if what < 7 {
-        node.seen = hurt_seen(seen, what, p, value);
-        return node;
-    }
-    node.cache = hurt_cache(cache, what, p, value);
     node
 }

@@ -12,30 +12,25 @@ mod calls;
 mod hurt;
 mod state;
 
-ghost use Rattle.std.specs.Prelude.{◌≤◌, length};
-
 use calls::call;
 use play::calls::{Run, nothing, stop};
-use text::{Header, next_record};
+use text::{Header, HeaderError, next_record};
 
 // Reads a record and answers it.
 fn turn(
     n: u64,
-    content: &mut [u8],
+    content: &mut [u8; 65600],
     run: Run,
     seen_store: &mut [u8],
     cache_store: &mut [u8],
     made: &mut [u8],
     out: &mut [u8],
-) -> Run
-    requires { 65600 ≤ length content.old }
-{
-    let h = next_record(content, 65600);
-    match h {
-        Header::End => stop(run, b""),
-        Header::Bad => stop(run, b"bad\n"),
-        Header::Long => stop(run, b"long\n"),
-        Header::Record { kind, len } => call(
+) -> Run {
+    match next_record(content, 65600) {
+        Ok(None) => stop(run, b""),
+        Err(HeaderError::Bad) => stop(run, b"bad\n"),
+        Err(HeaderError::Long) => stop(run, b"long\n"),
+        Ok(Some(Header { kind, len })) => call(
             n,
             kind,
             &content[..len],
@@ -56,8 +51,7 @@ fn main() {
     let mut made = [0u8; 65600];
     let mut out = [0u8; 131350];
     let mut run = nothing();
-    let mut n: u64 = 1;
-    while n < u64::MAX && run.go {
+    for n in 1..u64::MAX {
         run = turn(
             n,
             &mut content,
@@ -67,6 +61,8 @@ fn main() {
             &mut made,
             &mut out,
         );
-        n += 1;
+        if !run.go {
+            break;
+        }
     }
 }

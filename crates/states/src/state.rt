@@ -7,11 +7,9 @@ use seen::SeenCache;
 fn sum(s: &[u8]) -> u64 {
     let mut front: u64 = 0;
     let mut total: u64 = 0;
-    let mut i: usize = 0;
-    while i < s.len() {
-        front = std::num::wrapping_add_u64(front, s[i] as u64);
-        total = std::num::wrapping_add_u64(total, front);
-        i += 1;
+    for b in s {
+        front = front.wrapping_add(*b as u64);
+        total = total.wrapping_add(front);
     }
     total
 }

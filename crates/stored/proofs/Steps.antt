@@ -6,7 +6,7 @@ use native.Mathlib.Omega.{arith}
 use native.Mathlib.Numerals.{add-one}
 use native.Mathlib.Nat.{add_comm, suc-mul}
 use lib.ListN.{length, get_or, set, take, drop, drop_of_length-le}
-use lib.Seq.{sets, length-sets, drop-cons, drop-drop, take-suc-set, take_all}
+use lib.Seq.{sets, drop-cons, drop-drop, take-suc-set, take_all}
 use Rattle.basis.specs.Lists.{sets-append, set-fits}
 use Rattle.basis.specs.Little.{little, bytes_of, bytes_length_lem}
 use Rattle.basis.specs.Writing.{set_in}
@@ -36,9 +36,6 @@ gathered-done w s out at i n h k l e =
     sym (take_all i out (omega arith)) ∙ e ∙ ap (λ (j : ℕ). gathered w j (drop at s)) q
 
 -- ---- writing
-pub put-length : (w k : ℕ) (xs l after : List ℕ) → k + w ≤ length l → after ≡ set_in w k xs l → length after ≡ length l
-put-length w k xs l after h e = ap length (e ∙ set-fits w k xs l h) ∙ length-sets l k xs
-
 -- one number of several, each of w bytes
 pub spread-turn : (w : ℕ) (whole l after vs : List ℕ) (at i : ℕ) → i < length vs → sets l (at + i * w) (spread w (drop i vs)) ≡ whole → at + i * w + w ≤ length l → after ≡ set_in w (at + i * w) (bytes_of w (get_or vs i 0)) l → sets after (at + (i + 1) * w) (spread w (drop (i + 1) vs)) ≡ whole
 unfolding spread

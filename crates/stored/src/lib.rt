@@ -31,10 +31,8 @@ fn read_words(s: &[u8], at: usize, out: &mut [u64])
     requires { at + 8 * length out.old ≤ length s.now }
     ensures { out.new ≡ gathered 8 (length out.old) (drop at s.now) }
 {
-    let mut i: usize = 0;
-    while i < out.len() {
-        out[i] = read_word(s, at + i * 8);
-        i += 1;
+    for (i, word) in out.iter_mut().enumerate() {
+        *word = read_word(s, at + i * 8);
     }
 }
 
@@ -51,10 +49,8 @@ fn read_halves(s: &[u8], at: usize, out: &mut [u16])
     requires { at + 2 * length out.old ≤ length s.now }
     ensures { out.new ≡ gathered 2 (length out.old) (drop at s.now) }
 {
-    let mut i: usize = 0;
-    while i < out.len() {
-        out[i] = read_half(s, at + i * 2);
-        i += 1;
+    for (i, half) in out.iter_mut().enumerate() {
+        *half = read_half(s, at + i * 2);
     }
 }
 
@@ -144,10 +140,8 @@ fn write_words(out: &mut [u8], at: usize, values: &[u64])
     requires { at + 8 * length values.now ≤ length out.old }
     ensures { out.new ≡ sets out.old at (spread 8 values.now) }
 {
-    let mut i: usize = 0;
-    while i < values.len() {
-        put_little(out, at + i * 8, 8, values[i]);
-        i += 1;
+    for (i, value) in values.iter().enumerate() {
+        put_little(out, at + i * 8, 8, *value);
     }
 }
 
@@ -156,10 +150,8 @@ fn write_halves(out: &mut [u8], at: usize, values: &[u16])
     requires { at + 2 * length values.now ≤ length out.old }
     ensures { out.new ≡ sets out.old at (spread 2 values.now) }
 {
-    let mut i: usize = 0;
-    while i < values.len() {
-        put_little(out, at + i * 2, 2, values[i] as u64);
-        i += 1;
+    for (i, value) in values.iter().enumerate() {
+        put_little(out, at + i * 2, 2, *value as u64);
     }
 }
 

@@ -1,14 +1,13 @@
--- The loop of spell_text: one byte more, and none left.
-use Prim.Native.Nat.{ℕ, suc, ◌+◌, ◌≤◌, ◌<◌}
-use mathlib.Core.Path.{◌≡◌}
-use mathlib.Core.List.{List}
-use native.Mathlib.Numerals.{add-one}
+-- spell_text: a copy into the part from a place on is a run of stores.
+use Prim.Native.Nat.{ℕ, ◌+◌, ◌-◌, ◌≤◌}
+use mathlib.Core.Path.{◌≡◌, sym, ◌∙◌}
+use mathlib.Core.List.{List, append_assoc}
 use native.Mathlib.Omega.{arith}
-use lib.ListN.{length, drop, get_or, set, drop_of_length-le}
-use lib.Seq.{drop-cons, sets}
+use lib.ListN.{length, take, drop}
+use lib.Seq.{sets, sets-eq, drop-drop}
+use borrow.Rule.Slice.PartMut.{put_mid}
 
-pub turn : (out text : List ℕ) (at j : ℕ) → j < length text → sets (set out (at + j) (get_or text j 0)) (at + (j + 1)) (drop (j + 1) text) ≡ sets out (at + j) (drop j text)
-turn out text at j h = let e : at + suc j ≡ suc (at + j) = omega arith in rw (drop-cons text j 0 h, add-one j, e)
-
-pub done : (out text : List ℕ) (at j : ℕ) → length text ≤ j → sets out (at + j) (drop j text) ≡ out
-done out text at j h = rw (drop_of_length-le text h)
+pub copied : (out text y : List ℕ) (at : ℕ) → at + length text ≤ length out → y ≡ text → put_mid at ((at + length text) - at) out y ≡ sets out at text
+copied out text y at h e =
+    let k : (at + length text) - at ≡ length text = omega arith in
+    rw (e, k, drop-drop) (sym (sets-eq text out at h ∙ append_assoc (take at out) text (drop (at + length text) out)))

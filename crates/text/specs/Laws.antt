@@ -1,5 +1,5 @@
 -- Laws of records and lines.
-use Rattle.std.specs.Prelude.{ℕ, zero, suc, ◌+◌, ◌*◌, ◌-◌, ◌/◌, ◌%◌, ◌^◌, ◌≤◌, ◌<◌, ◌≡◌, refl, List, [], ◌∷◌, ◌++◌, Bool, true, false, cond, length, take, drop, set, ltb, eqb}
+use Rattle.std.specs.Prelude.{ℕ, zero, suc, ◌+◌, ◌*◌, ◌-◌, ◌/◌, ◌%◌, ◌^◌, ◌≤◌, ◌<◌, ◌≡◌, refl, List, [], ◌∷◌, ◌++◌, Bool, true, false, cond, length, take, drop, set, ltb, eqb, Some, None, Ok, Err}
 use Rattle.std.proofs.Common.{sym, ap, ◌∙◌, arith, pow-suc, add-one, length-append, ltb-true, ltb-false, lt-ltb}
 use Rattle.std.proofs.Math.Nat.{one-le-pow}
 use Rattle.std.proofs.Math.Seq.{length-sets, take-nil}
@@ -8,7 +8,7 @@ use Rattle.basis.specs.Writing.{end_in, set_in}
 use Rattle.basis.specs.Little.{little}
 use Rattle.basis.specs.Lists.{sets-append, end_fits, set-fits}
 use Rattle.io.specs.Digits.{hex_digit_ascii, last_digits, IsDigitCount}
-use Rattle.text.specs.declared.Header.TheVariants.{End, Bad, Long, Record}
+use Rattle.text.specs.declared.HeaderError.TheVariants.{Bad, Long}
 use Rattle.text.specs.Record.{header_of, content_length}
 use Rattle.text.specs.Line.{Puts, width, decimal, number, numbers, refused, hex}
 
@@ -135,7 +135,7 @@ hex_puts s h e = puts_in h (omega (arith, length-hex s)) e
 
 -- ---- a header
 tests : (a b c d : Bool) (k l most : ℕ) → (c ≡ false → l ≤ most)
-    → content_length (cond a End (cond b Bad (cond c Long (cond d Bad (Record k l))))) ≤ most
+    → content_length (cond a (Ok None) (cond b (Err Bad) (cond c (Err Long) (cond d (Err Bad) (Ok (Some (record { kind = k; len = l }))))))) ≤ most
 tests true b c d k l most h = omega arith
 tests false true c d k l most h = omega arith
 tests false false true d k l most h = omega arith

@@ -3,7 +3,7 @@
 // line has not the room, a public writer writes nothing and hands back the place as it was.
 #![tactic(auto)]
 
-ghost use Rattle.std.specs.Prelude.{◌≡◌, ◌+◌, ◌*◌, ◌≤◌, ◌∷◌, [], length, take};
+ghost use Rattle.std.specs.Prelude.{◌≡◌, ◌+◌, ◌*◌, ◌≤◌, ◌∷◌, [], length, take, false};
 ghost use Rattle.io.specs.Digits.{hex_digit_ascii as glyphOf};
 ghost use Rattle.basis.specs.Writing.{end_in, set_in};
 ghost use Rattle.text.specs.Record.{header_of, content_length};
@@ -11,42 +11,45 @@ ghost use Rattle.text.specs.Line.{Puts, decimal, number, numbers, refused, hex};
 
 use basis::{has_room, little_at};
 
-// What the start of a record says.
+// A record's kind, and how long its content is.
 #[derive(Clone, Copy)]
-pub enum Header {
-    End,
+pub struct Header {
+    pub kind: u64,
+    pub len: usize,
+}
+
+// Why there is no header: the record is cut, or its content is too long.
+#[derive(Clone, Copy)]
+pub enum HeaderError {
     Bad,
     Long,
-    Record { kind: u64, len: usize },
 }
 
 // The header of a record, of which s was read: at the end of the input nothing, of a cut one less than six bytes. The length is tested as
 // soon as it is there.
-pub fn read_header(s: &[u8], most: u64) -> Header
+pub fn read_header(s: &[u8], most: u64) -> Result<Option<Header>, HeaderError>
     ensures { result ≡ header_of most s.now }
 {
-    if s.len() == 0 {
-        return Header::End;
+    if s.is_empty() {
+        return Ok(None);
     }
     if s.len() < 4 {
-        return Header::Bad;
+        return Err(HeaderError::Bad);
     }
     let len = little_at(s, 0, 4);
     if most < len {
-        return Header::Long;
+        return Err(HeaderError::Long);
     }
     if s.len() < 6 {
-        return Header::Bad;
+        return Err(HeaderError::Bad);
     }
     let kind = little_at(s, 4, 2);
-    Header::Record {
-        kind,
-        len: len as usize,
-    }
+    let len = len as usize;
+    Ok(Some(Header { kind, len }))
 }
 
 // Reads the header of the next record from standard input.
-pub fn next_header(most: u64) -> Header
+pub fn next_header(most: u64) -> Result<Option<Header>, HeaderError>
     ensures { content_length result ≤ most }
 {
     let mut head = [0u8; 6];
@@ -64,17 +67,24 @@ pub fn read_content(content: &mut [u8], len: usize) -> bool {
 }
 
 // Reads the next record from standard input: bad where its content is cut or has no room.
-pub fn next_record(content: &mut [u8], most: u64) -> Header
+pub fn next_record(content: &mut [u8], most: u64) -> Result<Option<Header>, HeaderError>
     ensures { content_length result ≤ most }
 {
-    let h = next_header(most);
-    let Header::Record { kind: _, len } = h else {
-        return h;
+    let Some(header) = next_header(most)? else {
+        return Ok(None);
     };
-    if read_content(content, len) {
-        return h;
+    if read_content(content, header.len) {
+        return Ok(Some(header));
     }
-    Header::Bad
+    Err(HeaderError::Bad)
+}
+
+// Prints the word that ends a run. Answers whether to go on.
+pub fn last(word: &[u8]) -> bool
+    ensures { result ≡ false }
+{
+    io::write_all(1, word);
+    false
 }
 
 // Puts a text at `at`, where it fits, and says where it ends.
@@ -82,12 +92,9 @@ fn spell_text(out: &mut [u8], at: usize, text: &[u8]) -> usize
     requires { at + length text.now ≤ length out.old }
     ensures { Puts (length text.now) text.now out.old at out.new result }
 {
-    let mut j = 0;
-    while j < text.len() {
-        out[at + j] = text[j];
-        j = j + 1;
-    }
-    at + text.len()
+    let end = at + text.len();
+    out[at..end].copy_from_slice(text);
+    end
 }
 
 pub fn put_text(out: &mut [u8], at: usize, text: &[u8]) -> usize
@@ -234,13 +241,10 @@ fn spell_hex(out: &mut [u8], at: usize, s: &[u8]) -> usize
     ensures { Puts (2 * length s.now) (hex s.now) out.old at out.new result }
 {
     let mut i = at;
-    let mut j = 0;
-    while j < s.len() {
-        let b = s[j];
+    for b in s {
         out[i] = glyph(b / 16);
         out[i + 1] = glyph(b % 16);
-        i = i + 2;
-        j = j + 1;
+        i += 2;
     }
     i
 }

@@ -2,16 +2,16 @@
 // none can be left out. Only that they are safe and end is proved.
 #![tactic(auto)]
 
-use basis::Edition;
-use mcache::{Gossip, MessageCache, Put, PutDone};
-use seen::{Contains, Insert, Inserted, SeenCache};
+use basis::{Edition, Fault};
+use mcache::{GossipError, MessageCache, PutDone, PutError};
+use seen::{Inserted, SeenCache, SeenError};
 
 // How long an id is here, mark and all.
 const ID: usize = 65;
 
 // The place of the next part of a slice, in parts of this size: after the last comes the first.
 fn next(at: usize, size: usize, len: usize) -> usize {
-    let n = std::num::wrapping_add_usize(at, size);
+    let n = at.wrapping_add(size);
     if len <= n {
         return 0;
     }
@@ -22,22 +22,15 @@ fn next(at: usize, size: usize, len: usize) -> usize {
 fn touch(store: &mut [u8], p: usize, turn: u64) {
     if p < store.len() {
         store[p] = (turn % 256) as u8;
-        return;
     }
 }
 
 // ---- the seen cache
 
 fn insert_at(cache: SeenCache, store: &mut [u8], ids: &[u8], at: usize, max: usize) -> Inserted {
-    if ids.len() < ID {
+    if ids.len() < ID || ids.len() - ID < at {
         return Inserted {
-            answer: Insert::BadStore,
-            cache,
-        };
-    }
-    if ids.len() - ID < at {
-        return Inserted {
-            answer: Insert::BadStore,
+            answer: Err(SeenError::Fault(Fault::BadStore)),
             cache,
         };
     }
@@ -46,33 +39,21 @@ fn insert_at(cache: SeenCache, store: &mut [u8], ids: &[u8], at: usize, max: usi
 }
 
 fn contains_at(cache: SeenCache, store: &[u8], ids: &[u8], at: usize) -> bool {
-    if ids.len() < ID {
-        return false;
-    }
-    if ids.len() - ID < at {
+    if ids.len() < ID || ids.len() - ID < at {
         return false;
     }
     let end = at + ID;
-    let answer = cache.contains(store, &ids[at..end]);
-    match answer {
-        Contains::Yes => true,
-        Contains::No => false,
-        Contains::BadStore => false,
-        Contains::Malformed => false,
-        Contains::TooLong(_) => false,
-    }
+    cache.contains(store, &ids[at..end]).unwrap_or(false)
 }
 
 // The cache after so many inserts of the ids in turn.
 fn inserts(cache: SeenCache, store: &mut [u8], ids: &[u8], max: usize, times: u64) -> SeenCache {
     let mut c = cache;
     let mut at: usize = 0;
-    let mut i: u64 = 0;
-    while i < times {
+    for _ in 0..times {
         let r = insert_at(c, store, ids, at, max);
         c = r.cache;
         at = next(at, ID, ids.len());
-        i += 1;
     }
     c
 }
@@ -94,37 +75,24 @@ pub fn timed_seen_contains(
     let c = inserts(SeenCache::new(), store, ids, max, max as u64);
     let mut held: u64 = 0;
     let mut at: usize = 0;
-    let mut i: u64 = 0;
-    while i < times {
+    for _ in 0..times {
         if contains_at(c, store, asked, at) {
-            held = std::num::wrapping_add_u64(held, 1);
+            held = held.wrapping_add(1);
         }
         at = next(at, ID, asked.len());
-        i += 1;
     }
     held
-}
-
-fn seen_fine(c: SeenCache, store: &[u8]) -> bool {
-    let lent = c.lent(store);
-    match lent {
-        seen::Lent::Fine => true,
-        seen::Lent::BadStore => false,
-        seen::Lent::Malformed => false,
-    }
 }
 
 // The same, and only the test of the lent state, so many times.
 pub fn timed_seen_lent(store: &mut [u8], ids: &[u8], max: usize, times: u64) -> u64 {
     let c = inserts(SeenCache::new(), store, ids, max, max as u64);
     let mut fine: u64 = 0;
-    let mut i: u64 = 0;
-    while i < times {
+    for i in 0..times {
         touch(store, 128, i);
-        if seen_fine(c, store) {
-            fine = std::num::wrapping_add_u64(fine, 1);
+        if c.lent(store).is_ok() {
+            fine = fine.wrapping_add(1);
         }
-        i += 1;
     }
     fine
 }
@@ -132,15 +100,9 @@ pub fn timed_seen_lent(store: &mut [u8], ids: &[u8], max: usize, times: u64) -> 
 // ---- the message cache
 
 fn put_at(cache: MessageCache, store: &mut [u8], bodies: &[u8], at: usize, size: usize) -> PutDone {
-    if bodies.len() < size {
+    if bodies.len() < size || bodies.len() - size < at {
         return PutDone {
-            answer: Put::BadStore,
-            cache,
-        };
-    }
-    if bodies.len() - size < at {
-        return PutDone {
-            answer: Put::BadStore,
+            answer: Err(PutError::Faulty(Fault::BadStore)),
             cache,
         };
     }
@@ -158,20 +120,17 @@ fn puts(
 ) -> MessageCache {
     let mut c = cache;
     let mut at: usize = 0;
-    let mut i: u64 = 0;
-    while i < times {
+    for _ in 0..times {
         let r = put_at(c, store, bodies, at, size);
         c = r.cache;
         at = next(at, size, bodies.len());
-        i += 1;
     }
     c
 }
 
 fn filled(store: &mut [u8], bodies: &[u8], size: usize, max: usize, times: u64) -> MessageCache {
     let s = MessageCache::new(4, max, 0);
-    let cache = s.cache;
-    puts(cache, store, bodies, size, times)
+    puts(s.cache, store, bodies, size, times)
 }
 
 // Puts; how many messages are held then.
@@ -188,12 +147,9 @@ pub fn timed_cache_put(
 
 fn gossip_count(c: MessageCache, store: &[u8], topic: &[u8]) -> u64 {
     let g = c.gossip_ids(store, topic, 4);
-    let answer = g.answer;
-    match answer {
-        Gossip::Ids => g.count as u64,
-        Gossip::BadStore => 0,
-        Gossip::Malformed => 0,
-        Gossip::TopicTooLong(_) => 0,
+    match g.answer {
+        Ok(()) => g.count as u64,
+        Err(_) => 0,
     }
 }
 
@@ -208,25 +164,19 @@ pub fn timed_cache_gossip(
 ) -> u64 {
     let c = filled(store, bodies, size, max, max as u64);
     let mut told: u64 = 0;
-    let mut i: u64 = 0;
-    while i < times {
+    for i in 0..times {
         touch(store, 4095, i);
-        told = std::num::wrapping_add_u64(told, gossip_count(c, store, topic));
-        i += 1;
+        told = told.wrapping_add(gossip_count(c, store, topic));
     }
     told
 }
 
 fn got_at(c: MessageCache, store: &[u8], ids: &[u8], at: usize, size: usize) -> u64 {
-    if ids.len() < size {
-        return 0;
-    }
-    if ids.len() - size < at {
+    if ids.len() < size || ids.len() - size < at {
         return 0;
     }
     let end = at + size;
-    let got = c.get(store, &ids[at..end]);
-    got.len() as u64
+    c.get(store, &ids[at..end]).len() as u64
 }
 
 // The same, and looks ids of this size up in turn; the sum of the lengths of what was found.
@@ -242,22 +192,11 @@ pub fn timed_cache_get(
     let c = filled(store, bodies, size, max, max as u64);
     let mut found: u64 = 0;
     let mut at: usize = 0;
-    let mut i: u64 = 0;
-    while i < times {
-        found = std::num::wrapping_add_u64(found, got_at(c, store, ids, at, id_size));
+    for _ in 0..times {
+        found = found.wrapping_add(got_at(c, store, ids, at, id_size));
         at = next(at, id_size, ids.len());
-        i += 1;
     }
     found
-}
-
-fn cache_fine(c: MessageCache, store: &[u8]) -> bool {
-    let lent = c.lent(store);
-    match lent {
-        mcache::Lent::Fine => true,
-        mcache::Lent::BadStore => false,
-        mcache::Lent::Malformed => false,
-    }
 }
 
 // The same, and only the test of the lent state, so many times.
@@ -270,13 +209,11 @@ pub fn timed_cache_lent(
 ) -> u64 {
     let c = filled(store, bodies, size, max, max as u64);
     let mut fine: u64 = 0;
-    let mut i: u64 = 0;
-    while i < times {
+    for i in 0..times {
         touch(store, 4095, i);
-        if cache_fine(c, store) {
-            fine = std::num::wrapping_add_u64(fine, 1);
+        if c.lent(store).is_ok() {
+            fine = fine.wrapping_add(1);
         }
-        i += 1;
     }
     fine
 }

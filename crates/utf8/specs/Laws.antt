@@ -1,26 +1,25 @@
 -- The test is the grammar's: bytes pass exactly where the grammar has them.
-use Rattle.std.specs.Prelude.{ℕ, zero, suc, ◌-◌, ◌≤◌, ◌≡◌, refl, List, [], ◌∷◌, true, false, ◌≢◌, ◌↔◌, ltb, leb, eqb}
+use Rattle.std.specs.Prelude.{Option, None, ℕ, zero, suc, ◌-◌, ◌≤◌, ◌≡◌, refl, List, [], ◌∷◌, true, false, ◌≢◌, ◌↔◌, ltb, leb, eqb}
 use Rattle.std.proofs.Common.{sym, ◌∙◌, arith, le-ltb, le-leb, ne_eqb, ltb-true, ltb-false, leb-true, leb-false, eqb-true}
 use Rattle.std.proofs.lemmas.Bool.{false≢true, lt-leb, eqb-false}
 use Rattle.basis.specs.Cases.{either}
-use Rattle.utf8.specs.declared.State.{State}
-use Rattle.utf8.specs.declared.State.TheVariants.{Want, Bad}
-use Rattle.utf8.specs.Utf8.{lead_of, step_of, run, is_utf8}
+use Rattle.utf8.specs.declared.Want.{Want}
+use Rattle.utf8.specs.Utf8.{wanting, lead_of, step_of, run, is_utf8}
 use Rattle.utf8.specs.Grammar.{In, Utf8, none, utf8_1, utf8_2, utf8_3a, utf8_3b, utf8_3c, utf8_3d, utf8_4a}
 use Rattle.utf8.specs.Grammar.{utf8_4b, utf8_4c}
 
 -- ---- the rows of the grammar, as the first byte picks them
-data Lead (a : ℕ) : State → Type 0 where
-  l1 : In 0x00 0x7f a → Lead a (Want 0 0x80 0xbf)
-  l2 : In 0xc2 0xdf a → Lead a (Want 1 0x80 0xbf)
-  l3a : In 0xe0 0xe0 a → Lead a (Want 2 0xa0 0xbf)
-  l3b : In 0xe1 0xec a → Lead a (Want 2 0x80 0xbf)
-  l3c : In 0xed 0xed a → Lead a (Want 2 0x80 0x9f)
-  l3d : In 0xee 0xef a → Lead a (Want 2 0x80 0xbf)
-  l4a : In 0xf0 0xf0 a → Lead a (Want 3 0x90 0xbf)
-  l4b : In 0xf1 0xf3 a → Lead a (Want 3 0x80 0xbf)
-  l4c : In 0xf4 0xf4 a → Lead a (Want 3 0x80 0x8f)
-  bad : Lead a Bad
+data Lead (a : ℕ) : Option Want → Type 0 where
+  l1 : In 0x00 0x7f a → Lead a (wanting 0 0x80 0xbf)
+  l2 : In 0xc2 0xdf a → Lead a (wanting 1 0x80 0xbf)
+  l3a : In 0xe0 0xe0 a → Lead a (wanting 2 0xa0 0xbf)
+  l3b : In 0xe1 0xec a → Lead a (wanting 2 0x80 0xbf)
+  l3c : In 0xed 0xed a → Lead a (wanting 2 0x80 0x9f)
+  l3d : In 0xee 0xef a → Lead a (wanting 2 0x80 0xbf)
+  l4a : In 0xf0 0xf0 a → Lead a (wanting 3 0x90 0xbf)
+  l4b : In 0xf1 0xf3 a → Lead a (wanting 3 0x80 0xbf)
+  l4c : In 0xf4 0xf4 a → Lead a (wanting 3 0x80 0x8f)
+  bad : Lead a None
 
 lead_is : (a : ℕ) → Lead a (lead_of a)
 lead_is a =
@@ -48,13 +47,13 @@ lead_is a =
 eq_of : (n a : ℕ) → In n n a → a ≡ n
 eq_of n a i = omega arith
 
-row2 : (a : ℕ) → In 0xc2 0xdf a → lead_of a ≡ Want 1 0x80 0xbf
+row2 : (a : ℕ) → In 0xc2 0xdf a → lead_of a ≡ wanting 1 0x80 0xbf
 row2 a i = simp (lt-leb a 0x7f (omega arith), le-ltb a 0xc2 (omega arith), le-leb a 0xdf (omega arith))
 
-row3a : (a : ℕ) → In 0xe0 0xe0 a → lead_of a ≡ Want 2 0xa0 0xbf
+row3a : (a : ℕ) → In 0xe0 0xe0 a → lead_of a ≡ wanting 2 0xa0 0xbf
 row3a a i = rw (eq_of 0xe0 a i)
 
-row3b : (a : ℕ) → 0xe1 ≤ a → a ≤ 0xef → a ≢ 0xed → lead_of a ≡ Want 2 0x80 0xbf
+row3b : (a : ℕ) → 0xe1 ≤ a → a ≤ 0xef → a ≢ 0xed → lead_of a ≡ wanting 2 0x80 0xbf
 row3b a p q n =
     simp (
       lt-leb a 0x7f (omega arith),
@@ -65,13 +64,13 @@ row3b a p q n =
       le-leb a 0xef q,
     )
 
-row3c : (a : ℕ) → In 0xed 0xed a → lead_of a ≡ Want 2 0x80 0x9f
+row3c : (a : ℕ) → In 0xed 0xed a → lead_of a ≡ wanting 2 0x80 0x9f
 row3c a i = rw (eq_of 0xed a i)
 
-row4a : (a : ℕ) → In 0xf0 0xf0 a → lead_of a ≡ Want 3 0x90 0xbf
+row4a : (a : ℕ) → In 0xf0 0xf0 a → lead_of a ≡ wanting 3 0x90 0xbf
 row4a a i = rw (eq_of 0xf0 a i)
 
-row4b : (a : ℕ) → In 0xf1 0xf3 a → lead_of a ≡ Want 3 0x80 0xbf
+row4b : (a : ℕ) → In 0xf1 0xf3 a → lead_of a ≡ wanting 3 0x80 0xbf
 row4b a i = simp (
   lt-leb a 0x7f (omega arith),
   le-ltb a 0xc2 (omega arith),
@@ -83,7 +82,7 @@ row4b a i = simp (
   le-leb a 0xf3 (omega arith),
 )
 
-row4c : (a : ℕ) → In 0xf4 0xf4 a → lead_of a ≡ Want 3 0x80 0x8f
+row4c : (a : ℕ) → In 0xf4 0xf4 a → lead_of a ≡ wanting 3 0x80 0x8f
 row4c a i = rw (eq_of 0xf4 a i)
 
 pred_of : (n : ℕ) → suc n - 1 ≡ n
@@ -111,13 +110,13 @@ tails3 : (P : List ℕ → Type 0) (lo hi : ℕ) (s : List ℕ) → Rest 3 lo hi
 tails3 P lo hi [] r f = absurd r
 tails3 P lo hi (b ∷ t) r f = tails2 (λ t. P (b ∷ t)) 0x80 0xbf t r.1 (λ c d t x y. f b c d t r.0 x y)
 
-never : (s : List ℕ) → run Bad s ≡ false
+never : (s : List ℕ) → run None s ≡ false
 unfolding run
 never [] = refl
 never (b ∷ s) = never s
 
-from_lead : (a : ℕ) (s : List ℕ) (st : State) → Lead a st → run st s ≡ true
-    → ((n lo hi : ℕ) → run (Want n lo hi) s ≡ true → Rest n lo hi s) → Utf8 (a ∷ s)
+from_lead : (a : ℕ) (s : List ℕ) (st : Option Want) → Lead a st → run st s ≡ true
+    → ((n lo hi : ℕ) → run (wanting n lo hi) s ≡ true → Rest n lo hi s) → Utf8 (a ∷ s)
 from_lead a s _ (l1 i) h ih = utf8_1 i (ih 0 0x80 0xbf h)
 from_lead a s _ (l2 i) h ih = tails1 (λ t. Utf8 (a ∷ t)) 0x80 0xbf s (ih 1 0x80 0xbf h) (λ b t x u. utf8_2 i x u)
 from_lead a s _ (l3a i) h ih = tails2 (λ t. Utf8 (a ∷ t)) 0xa0 0xbf s (ih 2 0xa0 0xbf h)
@@ -137,67 +136,67 @@ from_lead a s _ (l4c i) h ih = tails3 (λ t. Utf8 (a ∷ t)) 0x80 0x8f s (ih 3 0
 from_lead a s _ bad h ih = absurd (false≢true (sym (never s) ∙ h))
 
 -- a byte within the range goes on, and another does not
-tail_in : (n lo hi b : ℕ) → n ≢ 0 → In lo hi b → step_of (Want n lo hi) b ≡ Want (n - 1) 0x80 0xbf
-tail_in n lo hi b z i = simp (ne_eqb n 0 z, le-ltb b lo i.least, le-ltb hi b i.most)
+tail_in : (n lo hi b : ℕ) → In lo hi b → step_of (wanting (suc n) lo hi) b ≡ wanting n 0x80 0xbf
+tail_in n lo hi b i = simp (ne_eqb (suc n) 0 (omega arith), le-ltb b lo i.least, le-ltb hi b i.most, pred_of n)
 
-on_tail : (n lo hi b : ℕ) (s : List ℕ) → run (step_of (Want (suc n) lo hi) b) s ≡ true → In lo hi b
+on_tail : (n lo hi b : ℕ) (s : List ℕ) → run (step_of (wanting (suc n) lo hi) b) s ≡ true → In lo hi b
 on_tail n lo hi b s h =
     let z : suc n ≢ 0 = omega arith in
     either (ltb b lo) (λ p. absurd (false≢true (sym (never s) ∙ (simp (ne_eqb (suc n) 0 z, p) at h))))
     (λ p. either (ltb hi b) (λ q. absurd (false≢true (sym (never s) ∙ (simp (ne_eqb (suc n) 0 z, p, q) at h))))
     (λ q. record { least = ltb-false b lo p; most = ltb-false hi b q }))
 
-sound : (s : List ℕ) (n lo hi : ℕ) → run (Want n lo hi) s ≡ true → Rest n lo hi s
+sound : (s : List ℕ) (n lo hi : ℕ) → run (wanting n lo hi) s ≡ true → Rest n lo hi s
 unfolding run
 sound [] zero lo hi h = none
 sound [] (suc n) lo hi h = let e = eqb-true (suc n) 0 h in absurd (omega arith)
 sound (a ∷ s) zero lo hi h = from_lead a s (lead_of a) (lead_is a) h (sound s)
 sound (b ∷ s) (suc n) lo hi h =
     let i = on_tail n lo hi b s h in
-    (i, sound s n 0x80 0xbf (rw (← pred_of n, ← tail_in (suc n) lo hi b (omega arith) i) h))
+    (i, sound s n 0x80 0xbf (rw tail_in at h))
 
 -- ---- from the grammar to the test
-complete : {s : List ℕ} → Utf8 s → run (Want 0 0x80 0xbf) s ≡ true
+complete : {s : List ℕ} → Utf8 s → run (wanting 0 0x80 0xbf) s ≡ true
 unfolding run
 complete none = refl
 complete (utf8_1 {a = a} i u) = rw (le-leb a 0x7f i.most) (complete u)
-complete (utf8_2 {a = a} {b = b} i x u) = simp (row2 a i, tail_in 1 0x80 0xbf b (omega arith) x) (complete u)
+complete (utf8_2 {a = a} {b = b} i x u) = simp (row2 a i, tail_in 0 0x80 0xbf b x) (complete u)
 complete (utf8_3a {a = a} {b = b} {c = c} i x y u) =
-    simp (row3a a i, tail_in 2 0xa0 0xbf b (omega arith) x, tail_in 1 0x80 0xbf c (omega arith) y) (complete u)
+    simp (row3a a i, tail_in 1 0xa0 0xbf b x, tail_in 0 0x80 0xbf c y) (complete u)
 complete (utf8_3b {a = a} {b = b} {c = c} i x y u) =
     simp (
       row3b a i.least (omega arith) (omega arith),
-      tail_in 2 0x80 0xbf b (omega arith) x,
-      tail_in 1 0x80 0xbf c (omega arith) y,
+      tail_in 1 0x80 0xbf b x,
+      tail_in 0 0x80 0xbf c y,
     ) (complete u)
 complete (utf8_3c {a = a} {b = b} {c = c} i x y u) =
-    simp (row3c a i, tail_in 2 0x80 0x9f b (omega arith) x, tail_in 1 0x80 0xbf c (omega arith) y) (complete u)
+    simp (row3c a i, tail_in 1 0x80 0x9f b x, tail_in 0 0x80 0xbf c y) (complete u)
 complete (utf8_3d {a = a} {b = b} {c = c} i x y u) =
     simp (
       row3b a (omega arith) i.most (omega arith),
-      tail_in 2 0x80 0xbf b (omega arith) x,
-      tail_in 1 0x80 0xbf c (omega arith) y,
+      tail_in 1 0x80 0xbf b x,
+      tail_in 0 0x80 0xbf c y,
     ) (complete u)
 complete (utf8_4a {a = a} {b = b} {c = c} {d = d} i x y z u) =
     simp (
       row4a a i,
-      tail_in 3 0x90 0xbf b (omega arith) x,
-      tail_in 2 0x80 0xbf c (omega arith) y,
-      tail_in 1 0x80 0xbf d (omega arith) z,
+      tail_in 2 0x90 0xbf b x,
+      tail_in 1 0x80 0xbf c y,
+      tail_in 0 0x80 0xbf d z,
     ) (complete u)
 complete (utf8_4b {a = a} {b = b} {c = c} {d = d} i x y z u) =
     simp (
       row4b a i,
-      tail_in 3 0x80 0xbf b (omega arith) x,
-      tail_in 2 0x80 0xbf c (omega arith) y,
-      tail_in 1 0x80 0xbf d (omega arith) z,
+      tail_in 2 0x80 0xbf b x,
+      tail_in 1 0x80 0xbf c y,
+      tail_in 0 0x80 0xbf d z,
     ) (complete u)
 complete (utf8_4c {a = a} {b = b} {c = c} {d = d} i x y z u) =
     simp (
       row4c a i,
-      tail_in 3 0x80 0x8f b (omega arith) x,
-      tail_in 2 0x80 0xbf c (omega arith) y,
-      tail_in 1 0x80 0xbf d (omega arith) z,
+      tail_in 2 0x80 0x8f b x,
+      tail_in 1 0x80 0xbf c y,
+      tail_in 0 0x80 0xbf d z,
     ) (complete u)
 
 pub exactly : (s : List ℕ) → (is_utf8 s ≡ true) ↔ Utf8 s

@@ -8,16 +8,15 @@ use lib.ListN.{length, take, drop, length-drop, drop_of_length-le}
 use lib.Seq.{length-take-le, take_all}
 use lib.Dec.{eqb}
 use borrow.Author.Tests.{le-ltb, eq-eqb, ne_eqb, eqb-false}
+use Rattle.std.specs.Prelude.{Result, Ok, Err}
 use Rattle.basis.specs.Cases.{either}
 use Rattle.basis.specs.Writing.{set_in}
 use Rattle.seen.specs.State.{id_size}
 use Rattle.seen.specs.Calls.{cap_of}
 use Rattle.mcache.specs.State.{message_size}
 use Rattle.node.specs.declared.Node.{Node}
-use Rattle.node.specs.declared.Fault.{Fault}
-use Rattle.node.specs.declared.Fault.TheVariants as fault
-use Rattle.node.specs.declared.Lent.{Lent}
-use Rattle.node.specs.declared.Lent.TheVariants as lent
+use Rattle.basis.specs.declared.Fault.TheVariants as fault
+use Rattle.basis.specs.declared.Fault.{Fault}
 use Rattle.node.specs.Calls.{lent_of, right_sizes}
 use Rattle.stored.specs.Layout.{node_size, node_in}
 use Rattle.why.specs.Given.{seen_part, cache_part, given_of, Gives}
@@ -38,14 +37,14 @@ tail k l = take_all (length l - k) (drop k l) (rw (length-drop k l) (omega arith
 
 module _ (n : Node) (rest : List ℕ) where
   -- too few bytes for the seen store
-  pub short : length rest / id_size < n.max_seen → lent.Faulty fault.BadStore ≡ given_of n rest
+  pub short : length rest / id_size < n.max_seen → Err fault.BadStore ≡ given_of n rest
   unfolding given_of
   short h = rw (ne_eqb (length rest) (n.max_seen * id_size + n.cache.max_messages * message_size) (λ e. omega arith))
 
   -- enough for it: the node meets 41 where the cache store is of another length
   other_cache : n.max_seen ≤ length rest / id_size
       → eqb (length rest) (n.max_seen * id_size + n.cache.max_messages * message_size) ≡ false
-      → lent_of n (seen_part n rest) (cache_part n rest) ≡ lent.Faulty fault.BadStore
+      → lent_of n (seen_part n rest) (cache_part n rest) ≡ Err fault.BadStore
   unfolding lent_of right_sizes cap_of
   other_cache h f =
       let k = n.max_seen * id_size in
@@ -55,7 +54,7 @@ module _ (n : Node) (rest : List ℕ) where
       λ e. eqb-false (length rest) (k + n.cache.max_messages * message_size) f (omega arith) in
       simp (le-ltb (length (seen_part n rest) / id_size) n.max_seen (omega arith), eq-eqb _ _ l, ne_eqb _ _ w)
 
-  pub enough : (r : Lent) → n.max_seen ≤ length rest / id_size
+  pub enough : (r : Result (Unit {0}) Fault) → n.max_seen ≤ length rest / id_size
       → r ≡ lent_of n (seen_part n rest) (take (length rest - n.max_seen * id_size) (cache_part n rest))
       → r ≡ given_of n rest
   unfolding given_of
@@ -64,18 +63,16 @@ module _ (n : Node) (rest : List ℕ) where
       either (eqb (length rest) (n.max_seen * id_size + n.cache.max_messages * message_size)) (λ t. rw t e)
       (λ f. rw f (e ∙ other_cache h f))
 
-  module _ {r : Lent} (e : r ≡ given_of n rest) where
+  pub refused : {ss cs : List ℕ} {why : Fault} → Err why ≡ given_of n rest → Gives n rest ss cs (Err why) ss cs
+  refused e = record { answer = e; seen = rw (← e); cache = rw (← e) }
+
+  module _ (e : Ok tt ≡ given_of n rest) where
     -- it has the bytes of its seen store
-    pub fine-room : r ≡ lent.Fine → n.max_seen * id_size ≤ length rest
-    fine-room h = let l = (given-parts n rest (sym e ∙ h)).0 in omega arith
+    pub fine-room : n.max_seen * id_size ≤ length rest
+    fine-room = let l = (given-parts n rest (sym e)).0 in omega arith
 
-    pub refused : {ss cs : List ℕ} {why : Fault} → r ≡ lent.Faulty why → Gives n rest ss cs r ss cs
-    refused h = let g = sym e ∙ h in record { answer = e; seen = rw g; cache = rw g }
-
-    pub taken : {ss cs ids messages part : List ℕ} → r ≡ lent.Fine
-        → ids ≡ set_in (length (seen_part n rest)) 0 (seen_part n rest) ss
+    pub taken : {ss cs ids messages part : List ℕ} → ids ≡ set_in (length (seen_part n rest)) 0 (seen_part n rest) ss
         → part ≡ take (length rest - n.max_seen * id_size) (cache_part n rest)
-        → messages ≡ set_in (length part) 0 part cs → Gives n rest ss cs r ids messages
-    taken h p t q =
-        let g = sym e ∙ h in
-        record { answer = e; seen = rw g p; cache = rw g (rw (t ∙ tail (n.max_seen * id_size) rest) at q) }
+        → messages ≡ set_in (length part) 0 part cs → Gives n rest ss cs (Ok tt) ids messages
+    taken p t q =
+        record { answer = e; seen = rw (← e) p; cache = rw (← e) (rw (t ∙ tail (n.max_seen * id_size) rest) at q) }

@@ -1,6 +1,6 @@
 -- What a gateway that is taken leaves: the buffers are long enough for its stores, so that the node is lent them as
 -- they were given.
-use Rattle.std.specs.Prelude.{ℕ, ◌+◌, ◌*◌, ◌≤◌, ◌≡◌, List, ◌++◌, length, take, drop, eqb}
+use Rattle.std.specs.Prelude.{Ok, ℕ, ◌+◌, ◌*◌, ◌≤◌, ◌≡◌, List, ◌++◌, length, take, drop, eqb}
 use Rattle.std.proofs.Common.{sym, ap, ◌∙◌, arith, zero-add, length-take, length-drop, take_at, eqb-true}
 use Rattle.std.proofs.lemmas.List.Edits.{sets-eq}
 use Rattle.basis.specs.Cases.{either, clash}
@@ -10,15 +10,14 @@ use Rattle.seen.specs.State.{id_size, max_ids}
 use Rattle.mcache.specs.State.{message_size, message_limit}
 use Rattle.mcache.specs.StateLaws.{fine-tests as cache-tests}
 use Rattle.node.specs.declared.Node.{Node}
-use Rattle.node.specs.declared.Lent.TheVariants as lent
 use Rattle.node.specs.Calls.{lent_of}
 use Rattle.node.specs.StateLaws.{fine-tests}
 use Rattle.why.specs.Given.{seen_part, cache_part, given_of, Gives}
 
-module _ (n : Node) (rest : List ℕ) (fine : given_of n rest ≡ lent.Fine) where
+module _ (n : Node) (rest : List ℕ) (fine : given_of n rest ≡ Ok tt) where
   -- its stores are as long as its maxima say, and can be used with it
   pub given-parts : (length rest ≡ n.max_seen * id_size + n.cache.max_messages * message_size)
-      × (lent_of n (seen_part n rest) (cache_part n rest) ≡ lent.Fine)
+      × (lent_of n (seen_part n rest) (cache_part n rest) ≡ Ok tt)
   unfolding given_of
   given-parts =
       either (eqb (length rest) (n.max_seen * id_size + n.cache.max_messages * message_size))
@@ -49,7 +48,7 @@ front k xs l after e h z =
     ap (take k) (placed xs l after (omega arith) z) ∙ take_at xs (drop (length xs) l) k e
 
 pub given-lent : {n : Node} {rest ss cs ids messages : List ℕ} → max_ids * id_size ≤ length ss
-    → message_limit * message_size ≤ length cs → Gives n rest ss cs lent.Fine ids messages
+    → message_limit * message_size ≤ length cs → Gives n rest ss cs (Ok tt) ids messages
     → (take (n.max_seen * id_size) ids ≡ seen_part n rest)
     × (take (n.cache.max_messages * message_size) messages ≡ cache_part n rest)
 given-lent {n} {rest} {ss} {cs} {ids} {messages} h k g =

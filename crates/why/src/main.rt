@@ -14,7 +14,7 @@ use gateway::take_gateway;
 use play::calls::{Run, no_question, nothing, stop, why, within};
 use play::is_bad;
 use stored::NODE_SIZE;
-use text::{Header, next_header, read_content};
+use text::{Header, HeaderError, next_header, read_content};
 
 // How long content of a kind may be: a gateway's as long as the largest.
 fn most_content(kind: u64) -> usize
@@ -119,21 +119,18 @@ fn go_on(
 // Reads a record and answers it.
 fn turn(
     n: u64,
-    content: &mut [u8],
+    content: &mut [u8; 307608],
     run: Run,
     seen_store: &mut [u8],
     cache_store: &mut [u8],
     made: &mut [u8],
     out: &mut [u8],
-) -> Run
-    requires { 307608 ≤ length content.old }
-{
-    let h = next_header(307608);
-    match h {
-        Header::End => stop(run, b""),
-        Header::Bad => stop(run, b"bad\n"),
-        Header::Long => stop(run, b"long\n"),
-        Header::Record { kind, len } => go_on(
+) -> Run {
+    match next_header(307608) {
+        Ok(None) => stop(run, b""),
+        Err(HeaderError::Bad) => stop(run, b"bad\n"),
+        Err(HeaderError::Long) => stop(run, b"long\n"),
+        Ok(Some(Header { kind, len })) => go_on(
             n,
             kind,
             len,
@@ -155,8 +152,7 @@ fn main() {
     let mut made = [0u8; 65536];
     let mut out = [0u8; 131350];
     let mut run = nothing();
-    let mut n: u64 = 1;
-    while n < u64::MAX && run.go {
+    for n in 1..u64::MAX {
         run = turn(
             n,
             &mut content,
@@ -166,6 +162,8 @@ fn main() {
             &mut made,
             &mut out,
         );
-        n += 1;
+        if !run.go {
+            break;
+        }
     }
 }

@@ -1,25 +1,30 @@
 -- `admission::key_matches` meets its contract.
-use mathlib.Core.Path.{ap, ◌∙◌}
-use mathlib.Core.List.{List}
-use Prim.Native.Nat.{ℕ}
+use Rattle.std.specs.Prelude.{◌≡◌, Some, ℕ, List}
+use Rattle.std.proofs.Common.{sym, ap, ◌∙◌, rules}
+use Rattle.peer_id.specs.PeerId.{from_bytes}
+use Rattle.peer_id.specs.declared.PeerId.TheVariants as who
 use Rattle.rows.specs.Ids.{same_bytes}
 use Rattle.admission.proofs.Turns.{has-digest, matches_case, digest-part}
-use borrow.Author.Rules.{rules}
+use Rattle.admission.proofs.key_matches.Goals.{In-Some-Identity}
 use Rattle.admission.proofs.key_matches.Goals as goal
 
+identity : (c : In-Some-Identity) → Some who.Identity ≡ from_bytes c.args.sender.now
+identity c = ap Some (sym c.in-Some-Identity.field-0-is) ∙ c.in-Some-Identity.ensures
+
 pub slice_bounds-same-count : goal.slice_bounds-same-count
-slice_bounds-same-count c = has-digest _ _ c.from_bytes-peer.ensures c.in-Identity.is
+slice_bounds-same-count c = has-digest _ (identity c)
 
 pub slice_bounds-same-start : goal.slice_bounds-same-start
-slice_bounds-same-start c = let h = has-digest _ _ c.from_bytes-peer.ensures c.in-Identity.is in search rules
+slice_bounds-same-start c = let h = has-digest _ (identity c) in search rules
 
-pub returns-in-Identity : goal.returns-in-Identity
-returns-in-Identity c =
+pub returns-in-Some-Identity : goal.returns-in-Some-Identity
+returns-in-Some-Identity c =
     c.same.ensures ∙ ap (λ (l : List ℕ). same_bytes l c.args.key.now) (digest-part c.args.sender.now)
-    ∙ matches_case _ _ c.from_bytes-peer.ensures _ _ c.in-Identity.is
+    ∙ matches_case _ _ _ (identity (goal.at.returns-in-Some-Identity c).In-Some-Identity)
 
-pub returns-in-Sha256 : goal.returns-in-Sha256
-returns-in-Sha256 c = matches_case _ _ c.from_bytes-peer.ensures _ _ c.in-Sha256.is
+pub returns-in-Some-Sha256 : goal.returns-in-Some-Sha256
+returns-in-Some-Sha256 c =
+    matches_case _ _ _ (ap Some (sym c.in-Some-Sha256.field-0-is) ∙ c.in-Some-Sha256.ensures)
 
-pub returns-in-NotPeerId : goal.returns-in-NotPeerId
-returns-in-NotPeerId c = matches_case _ _ c.from_bytes-peer.ensures _ _ c.in-NotPeerId.is
+pub returns-in-None : goal.returns-in-None
+returns-in-None c = matches_case _ _ _ c.in-None.ensures

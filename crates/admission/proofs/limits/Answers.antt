@@ -1,17 +1,12 @@
 -- `admission::limits` meets its contract.
-use Rattle.admission.proofs.Turns.{counts, longs, limit_none, limit_many, limit_long, limit_size, limit_fit}
+use Rattle.admission.proofs.Turns.{counts, longs, limit_count, limit_long, limit_size, limit_fit}
 use Rattle.admission.proofs.limits.Goals as goal
 
 pub returns-then-t-eq0 : goal.returns-then-t-eq0
 returns-then-t-eq0 c =
     let a = c.args in
-    limit_none a.mode _ _ _ _ (counts a.mode _ c.requires) (longs a.mode _ c.requires) c.if-t-eq0.true
-
-pub returns-then-t-gt-MAX_TOPICS : goal.returns-then-t-gt-MAX_TOPICS
-returns-then-t-gt-MAX_TOPICS c =
-    let a = c.args in
     let pre = c.requires in
-    limit_many a.mode _ _ _ _ (counts a.mode _ pre) (longs a.mode _ pre) c.if-t-eq0.false c.if-t-gt-MAX_TOPICS.true
+    limit_count a.mode _ _ _ _ (counts a.mode _ pre) (longs a.mode _ pre) c.then-t-eq0.either
 
 pub returns-then-t-ne0 : goal.returns-then-t-ne0
 returns-then-t-ne0 c =

@@ -8,8 +8,8 @@ use Rattle.admission.specs.Admission.{topics_along, topics_of, places_along, top
 use Rattle.admission.proofs.Turns.{long_from}
 use Rattle.admission.proofs.topics_of.Given as goal
 
-abbrev pub invariant-loop-at : goal.invariant-loop-at
-invariant-loop-at l =
+abbrev pub invariant-loop-f : goal.invariant-loop-f
+invariant-loop-f l =
     let ts = topics_along l.part (walk_at l.mode l.part l.at) in
     let ps = places_along (walk_at l.mode l.part l.at) in
     (l.at ≤ length l.part) × (l.n ≤ l.at) × (length (topics_of l.mode l.part) ≡ l.n + length ts) × (first_long (topics_of l.mode l.part) ≡ long_from l.long ts)
@@ -17,5 +17,5 @@ invariant-loop-at l =
     l.part)))
     × (length l.starts ≡ length l.initial.starts) × (length l.sizes ≡ length l.initial.sizes)
 
-abbrev pub decreases-loop-at : goal.decreases-loop-at
-decreases-loop-at l = length l.part - l.at
+abbrev pub decreases-loop-f : goal.decreases-loop-f
+decreases-loop-f l = length l.part - l.at

@@ -10,4 +10,4 @@ returns-then-s-at c = past _ c.args.at (min c.args.n 8) c.if-s-at.true
 
 pub returns : goal.returns
 returns c =
-    let a = c.args in c.read_little.ensures ∙ there _ a.at (min a.n 8) c.least-m.result c.if-s-at.false (omega arith)
+    let a = c.args in c.read_little.ensures ∙ there _ a.at (min a.n 8) c.min-m.result c.if-s-at.false (omega arith)

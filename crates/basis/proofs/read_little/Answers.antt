@@ -1,27 +1,30 @@
--- `basis::read_little` meets its contract: `value` is the number in the bytes from i on.
-use Prim.Native.Nat.{◌-◌}
+-- `basis::read_little` meets its contract: `value` is the number in the bytes that were passed, on top of those that are left.
+use Prim.Native.Nat.{◌+◌, ◌-◌, ◌<◌}
+use mathlib.Core.Path.{◌≡◌}
 use native.Mathlib.Omega.{arith}
-use Rattle.basis.proofs.Little.{turn, grows, room, none, all}
+use lib.ListN.{take, drop, length-take}
+use borrow.Author.Rules.{rules}
+use Rattle.basis.proofs.Little.{all, one_more, room, none}
 use Rattle.basis.proofs.read_little.Goals as goal
 
-pub loop-i-init : goal.loop-i-init
-loop-i-init c = let n = none _ _ in (omega arith, omega arith, n.0, n.1)
+pub loop-b-init : goal.loop-b-init
+loop-b-init c =
+    let a = c.args in
+    let k : a.at + a.n - a.at ≡ a.n = omega arith in
+    let e : c.into_iter-b-iterator.result.iter.rest.now ≡ take (a.at + a.n - a.at) (drop a.at a.s.now) = search rules in
+    rw (e, k) (none _ _ (omega (arith, length-take a.n (drop a.at a.s.now))))
 
 pub overflow_mul-value : goal.overflow_mul-value
-overflow_mul-value c = omega (arith, room _ _ (omega arith) c.loop-i.invariant.2)
-
-pub overflow_cast-value : goal.overflow_cast-value
-overflow_cast-value c = omega (arith, c.shared_slice_known-1.given (c.loop-i.i - 1))
+overflow_mul-value c = let h = room _ _ c.requires.n_bound c.in-Some.ensures.steps c.loop-b.invariant in omega arith
 
 pub overflow_add-value : goal.overflow_add-value
 overflow_add-value c =
-    omega (arith, c.shared_slice_known-1.given (c.loop-i.i - 1), room _ _ (omega arith) c.loop-i.invariant.2)
+    let h = room _ _ c.requires.n_bound c.in-Some.ensures.steps c.loop-b.invariant in
+    let b : c.from.result < 256 = search rules in
+    omega arith
 
-pub loop-i-preserved : goal.loop-i-preserved
-loop-i-preserved c =
-    let l = c.loop-i in
-    let b = c.shared_slice_known-1.given (l.i - 1) in
-    (omega arith, omega arith, grows _ _ _ _ (omega arith) l.invariant.1 l.invariant.2 (omega arith), turn _ l.i _ _ (omega arith) l.invariant.1 (omega arith) l.invariant.3)
+pub loop-b-preserved : goal.loop-b-preserved
+loop-b-preserved c = rw c.from.ensures (one_more _ _ c.in-Some.ensures.steps (search rules) c.loop-b.invariant)
 
 pub returns : goal.returns
-returns c = let l = c.loop-i in all _ _ _ l.i _ l.invariant.0 c.loop-i-test.false l.invariant.3
+returns c = all c.in-None.ensures.steps.0 c.loop-b.invariant

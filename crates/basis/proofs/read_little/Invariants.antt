@@ -1,13 +1,8 @@
--- `basis::read_little` meets its contract: `value` is the number in the bytes from i on.
-use Prim.Native.Nat.{◌+◌, ◌-◌, ◌^◌, ◌≤◌, ◌<◌}
-use mathlib.Core.Path.{◌≡◌}
+-- `basis::read_little` meets its contract: `value` is the number in the bytes that were passed, on top of those that are left.
 use lib.ListN.{take, drop}
 use Rattle.basis.specs.Little.{little}
+use Rattle.basis.proofs.Little.{Read}
 use Rattle.basis.proofs.read_little.Given as goal
 
-abbrev pub invariant-loop-i : goal.invariant-loop-i
-invariant-loop-i l =
-    (l.at ≤ l.i) × (l.i ≤ l.at + l.n) × (l.value < 256 ^ (l.at + l.n - l.i)) × (l.value ≡ little (take (l.at + l.n - l.i) (drop l.i l.s)))
-
-abbrev pub decreases-loop-i : goal.decreases-loop-i
-decreases-loop-i l = l.i
+abbrev pub invariant-loop-b : goal.invariant-loop-b
+invariant-loop-b l = Read (little (take l.n (drop l.at l.s))) l.n l.b-iterator.iter.rest.now l.value

@@ -12,18 +12,18 @@ returns-then-out-end c =
     let a = c.args in
     let rs = lent_rows a.records.now in
     let b = a.bytes.now in
-    puts_same a.out.now a.at _ _ _ _ (control-some b rs (sym c.has_control.ensures ∙ c.if-has_control.true))
+    puts_same a.out.now a.at _ _ _ _ (control-some b rs (sym c.has_control.ensures ∙ c.if-not-has_control.false))
     (field-short _ _ a.out.now _ a.at _ _ _ 3 (each_row 8 3 b rs ++ each_row 9 4 b rs) c.emit_entries-len.ensures c.emit_head-i.ensures c.past-end.ensures c.if-out-end.true)
-
-pub returns-then-has_control : goal.returns-then-has_control
-returns-then-has_control c =
-    let a = c.args in
-    let rs = lent_rows a.records.now in
-    let b = a.bytes.now in
-    puts_same a.out.now a.at _ _ _ _ (control-some b rs (sym c.has_control.ensures ∙ c.if-has_control.true))
-    (field_puts _ _ a.out.now _ _ a.at _ _ _ 3 (each_row 8 3 b rs ++ each_row 9 4 b rs) c.emit_entries-len.ensures c.emit_head-i.ensures c.emit_entries.ensures)
 
 pub returns : goal.returns
 returns c =
     let a = c.args in
-    puts_same a.out.now a.at _ _ _ _ (sym (control-none a.bytes.now (lent_rows a.records.now) (sym c.has_control.ensures ∙ c.if-has_control.false))) (puts_none a.out.now a.at (omega (arith, c.ranges.at.fits)))
+    let rs = lent_rows a.records.now in
+    let b = a.bytes.now in
+    puts_same a.out.now a.at _ _ _ _ (control-some b rs (sym c.has_control.ensures ∙ c.if-not-has_control.false))
+    (field_puts _ _ a.out.now _ _ a.at _ _ _ 3 (each_row 8 3 b rs ++ each_row 9 4 b rs) c.emit_entries-len.ensures c.emit_head-i.ensures c.emit_entries.ensures)
+
+pub returns-then-not-has_control : goal.returns-then-not-has_control
+returns-then-not-has_control c =
+    let a = c.args in
+    puts_same a.out.now a.at _ _ _ _ (sym (control-none a.bytes.now (lent_rows a.records.now) (sym c.has_control.ensures ∙ c.if-not-has_control.true))) (puts_none a.out.now a.at (omega (arith, c.ranges.at.fits)))

@@ -21,9 +21,9 @@ emit_place-requires c =
     let p = c.requires in
     let n = length a.bytes.now in
     let m = message-row n a.r (record_from a.records.now (a.i * 20)) p.r_value.0 (p.inside.each a.i p.message_row.0) p.message_row.1 in
-    (p.r_value.1, subst (λ (x : Place). inside_at n a.r.start x ≡ true) (sym c.slot_at-place.ensures) (slot_inside n a.r.start a.n a.r.slots m))
+    (p.r_value.1, subst (λ (x : Place). inside_at n a.r.start x ≡ true) (sym c.slot_at.ensures) (slot_inside n a.r.start a.n a.r.slots m))
 
 pub returns : goal.returns
 returns c =
     let a = c.args in
-    puts_same a.out.now a.at _ _ _ _ (part_other a.n a.bytes.now a.r (rows_from a.records.now (a.i + 1)) c.if-n-eq4.false _ c.slot_at-place.ensures) c.emit_place.ensures
+    puts_same a.out.now a.at _ _ _ _ (part_other a.n a.bytes.now a.r (rows_from a.records.now (a.i + 1)) c.if-n-eq4.false _ c.slot_at.ensures) c.emit_place.ensures

@@ -12,12 +12,12 @@ pub emit_peer_field-requires : goal.emit_peer_field-requires
 emit_peer_field-requires c =
     let a = c.args in
     let p = c.requires in
-    peer-row (length a.bytes.now) _ (record_from a.records.now (a.i * 20)) c.row_at-r.ensures (p.inside.each a.i p.i_in_bounds) (sym c.is_code.ensures ∙ c.if-is_code.true)
+    peer-row (length a.bytes.now) _ (record_from a.records.now (a.i * 20)) c.row_at.ensures (p.inside.each a.i p.i_in_bounds) (sym c.is_code.ensures ∙ c.if-is_code.true)
 
 pub returns-then-is_code : goal.returns-then-is_code
 returns-then-is_code c =
     let a = c.args in
-    puts_same a.out.now a.at _ _ _ _ (peer-yes a.bytes.now _ (record_from a.records.now (a.i * 20)) c.row_at-r.ensures (sym c.is_code.ensures ∙ c.if-is_code.true)) c.emit_peer_field.ensures
+    puts_same a.out.now a.at _ _ _ _ (peer-yes a.bytes.now _ (record_from a.records.now (a.i * 20)) c.row_at.ensures (sym c.is_code.ensures ∙ c.if-is_code.true)) c.emit_peer_field.ensures
 
 pub returns : goal.returns
 returns c =

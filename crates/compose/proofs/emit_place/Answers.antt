@@ -1,26 +1,19 @@
--- `compose::emit_place` meets its contract: nothing, or the bytes at the place, which lies within those that are lent.
-use mathlib.Core.Path.{sym}
-use native.Mathlib.Omega.{arith}
+-- `compose::emit_place` meets its contract: nothing, or the bytes at the place.
+use Rattle.std.specs.Prelude.{option_copied}
+use Rattle.std.proofs.Common.{sym, ap, ◌∙◌, arith}
+use Rattle.protobuf.specs.Encode.{bytes_field}
+use Rattle.rpc.specs.Encode.{optional}
 use Rattle.compose.specs.Puts.{puts_none, puts_same}
-use Rattle.compose.proofs.Parts.{place_inside, place_none, place_is}
 use Rattle.compose.proofs.emit_place.Goals as goal
 
-pub overflow_add-base : goal.overflow_add-base
-overflow_add-base c = let z = place_inside _ _ _ _ _ c.requires.1 c.in-Present.is in omega (arith, z.0, z.1)
-
-pub overflow_add-base-in-Present : goal.overflow_add-base-in-Present
-overflow_add-base-in-Present c = let z = place_inside _ _ _ _ _ c.requires.1 c.in-Present.is in omega (arith, z.0, z.1)
-
-pub emit_part-requires : goal.emit_part-requires
-emit_part-requires c =
-    let z = place_inside _ _ _ _ _ c.requires.1 c.in-Present.is in (c.requires.0, omega (arith, z.0), z.1)
-
-pub returns-in-Absent : goal.returns-in-Absent
-returns-in-Absent c =
+pub returns-in-None : goal.returns-in-None
+returns-in-None c =
     let a = c.args in
-    puts_same a.out.now a.at _ _ _ _ (sym (place_none a.n a.bytes.now a.base a.place c.in-Absent.is)) (puts_none a.out.now a.at (omega (arith, c.ranges.at.fits)))
+    let e = ap (λ o. optional (bytes_field a.n) (option_copied o)) (sym c.in-None.is) ∙ ap (optional (bytes_field a.n)) c.field_at.ensures in
+    puts_same a.out.now a.at _ _ _ _ e (puts_none a.out.now a.at (omega (arith, c.ranges.at.fits)))
 
-pub returns-in-Present : goal.returns-in-Present
-returns-in-Present c =
+pub returns-in-Some : goal.returns-in-Some
+returns-in-Some c =
     let a = c.args in
-    puts_same a.out.now a.at _ _ _ _ (sym (place_is a.n a.bytes.now a.base _ _ a.place c.in-Present.is)) c.emit_part.ensures
+    let e = ap (λ o. optional (bytes_field a.n) (option_copied o)) (sym c.in-Some.is) ∙ ap (optional (bytes_field a.n)) c.field_at.ensures in
+    puts_same a.out.now a.at _ _ _ _ e c.emit_part.ensures

@@ -1,6 +1,6 @@
 -- `compose::emit_row` meets its contract: by the code, each kind by its own writer.
-use Prim.Native.Nat.{◌+◌, ◌*◌}
-use lib.ListN.{length}
+use Rattle.std.specs.Prelude.{◌+◌, ◌*◌, length}
+use Rattle.std.proofs.Common.{rules}
 use Rattle.message.specs.Rows.{record_from}
 use Rattle.compose.specs.Lent.{rows_from}
 use Rattle.compose.specs.Puts.{puts_same}
@@ -11,48 +11,40 @@ pub emit_sub_opts-requires : goal.emit_sub_opts-requires
 emit_sub_opts-requires c =
     let a = c.args in
     let p = c.requires in
-    sub_opts_row (length a.bytes.now) _ (record_from a.records.now (a.i * 20)) c.row_at-r.ensures (p.inside.each a.i p.i_in_bounds) (of_code (record_from a.records.now (a.i * 20)) c.if-code-eq-SUB_OPTS.true p.code_value)
-
-pub returns-then-code-eq-SUB_OPTS : goal.returns-then-code-eq-SUB_OPTS
-returns-then-code-eq-SUB_OPTS c =
-    let a = c.args in
-    puts_same a.out.now a.at _ _ _ _ (row-sub_opts a.code a.bytes.now _ (record_from a.records.now (a.i * 20)) (rows_from a.records.now (a.i + 1)) c.row_at-r.ensures c.if-code-eq-SUB_OPTS.true) c.emit_sub_opts.ensures
-
-pub emit_message-requires : goal.emit_message-requires
-emit_message-requires c =
-    let a = c.args in
-    let p = c.requires in record {
-      inside = p.inside;
-      message_row = (p.i_in_bounds, of_code (record_from a.records.now (a.i * 20)) c.if-code-eq-RAW_MESSAGE.true p.code_value);
-    }
-
-pub returns-then-code-eq-RAW_MESSAGE : goal.returns-then-code-eq-RAW_MESSAGE
-returns-then-code-eq-RAW_MESSAGE c =
-    let a = c.args in
-    puts_same a.out.now a.at _ _ _ _ (row-message a.code a.bytes.now (record_from a.records.now (a.i * 20)) (rows_from a.records.now (a.i + 1)) c.if-code-eq-RAW_MESSAGE.true) c.emit_message.ensures
+    let x = record_from a.records.now (a.i * 20) in
+    sub_opts_row (length a.bytes.now) _ x c.row_at.ensures (p.inside.each a.i p.i_in_bounds) (of_code x c.in-1.is p.code_value)
 
 pub emit_graft-requires : goal.emit_graft-requires
 emit_graft-requires c =
     let a = c.args in
     let p = c.requires in
-    graft-row (length a.bytes.now) _ (record_from a.records.now (a.i * 20)) c.row_at-r-then-code-eq-CONTROL_GRAFT.ensures (p.inside.each a.i p.i_in_bounds) (of_code (record_from a.records.now (a.i * 20)) c.if-code-eq-CONTROL_GRAFT.true p.code_value)
+    let x = record_from a.records.now (a.i * 20) in
+    graft-row (length a.bytes.now) _ x c.row_at-in-8.ensures (p.inside.each a.i p.i_in_bounds) (of_code x c.in-8.is p.code_value)
 
-pub returns-then-code-eq-CONTROL_GRAFT : goal.returns-then-code-eq-CONTROL_GRAFT
-returns-then-code-eq-CONTROL_GRAFT c =
+pub returns-in-1 : goal.returns-in-1
+returns-in-1 c =
     let a = c.args in
-    puts_same a.out.now a.at _ _ _ _ (row-graft a.code a.bytes.now _ (record_from a.records.now (a.i * 20)) (rows_from a.records.now (a.i + 1)) c.row_at-r-then-code-eq-CONTROL_GRAFT.ensures c.if-code-eq-CONTROL_GRAFT.true) c.emit_graft.ensures
+    puts_same a.out.now a.at _ _ _ _
+    (row-sub_opts a.code a.bytes.now _ (record_from a.records.now (a.i * 20)) (rows_from a.records.now (a.i + 1)) c.row_at.ensures c.in-1.is)
+    c.emit_sub_opts.ensures
 
-pub emit_prune-requires : goal.emit_prune-requires
-emit_prune-requires c =
+pub returns-in-2 : goal.returns-in-2
+returns-in-2 c =
     let a = c.args in
-    let p = c.requires in record {
-      inside = p.inside;
-      i_in_bounds = p.i_in_bounds;
-      i_value = of_code (record_from a.records.now (a.i * 20)) (last_code p.written c.if-code-eq-SUB_OPTS.false c.if-code-eq-RAW_MESSAGE.false c.if-code-eq-CONTROL_GRAFT.false) p.code_value;
-    }
+    puts_same a.out.now a.at _ _ _ _
+    (row-message a.code a.bytes.now (record_from a.records.now (a.i * 20)) (rows_from a.records.now (a.i + 1)) c.in-2.is)
+    c.emit_message.ensures
 
-pub returns : goal.returns
-returns c =
+pub returns-in-8 : goal.returns-in-8
+returns-in-8 c =
     let a = c.args in
-    let p = c.requires in
-    puts_same a.out.now a.at _ _ _ _ (row-prune a.code a.bytes.now (record_from a.records.now (a.i * 20)) (rows_from a.records.now (a.i + 1)) (last_code p.written c.if-code-eq-SUB_OPTS.false c.if-code-eq-RAW_MESSAGE.false c.if-code-eq-CONTROL_GRAFT.false)) c.emit_prune.ensures
+    puts_same a.out.now a.at _ _ _ _
+    (row-graft a.code a.bytes.now _ (record_from a.records.now (a.i * 20)) (rows_from a.records.now (a.i + 1)) c.row_at-in-8.ensures c.in-8.is)
+    c.emit_graft.ensures
+
+pub returns-in_default : goal.returns-in_default
+returns-in_default c =
+    let a = c.args in
+    puts_same a.out.now a.at _ _ _ _
+    (row-prune a.code a.bytes.now (record_from a.records.now (a.i * 20)) (rows_from a.records.now (a.i + 1)) (last_code c.requires.written (λ e. search rules) (λ e. search rules) (λ e. search rules)))
+    c.emit_prune.ensures

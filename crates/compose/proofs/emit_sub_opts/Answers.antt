@@ -10,5 +10,5 @@ emit_place-requires c = (omega arith, sub_opts_inside _ _ _ c.requires)
 pub returns : goal.returns
 returns c =
     let a = c.args in
-    puts_same a.out.now a.at _ _ _ _ (sub_opts_is a.bytes.now a.r _ c.flag-subscribe.ensures)
+    puts_same a.out.now a.at _ _ _ _ (sub_opts_is a.bytes.now a.r _ c.flag.ensures)
     (puts_append a.out.now _ _ a.at _ _ _ _ c.emit_number-i.ensures c.emit_place.ensures)

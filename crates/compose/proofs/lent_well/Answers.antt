@@ -1,5 +1,5 @@
 -- `compose::lent_well` meets its contract: what the rows from i on say, after a message or none and a prune or none, is what all of them say.
-use Rattle.compose.proofs.Tests.{or-now, or-then, lent-parts, lent-all, lent-end, lent_kind, lent_row, lent_on}
+use Rattle.compose.proofs.Tests.{or-now, or-then, lent-parts, lent-all, lent_on}
 use Rattle.compose.proofs.lent_well.Goals.{then-is_code, else-is_code, then-is_code-2, else-is_code-2}
 use Rattle.compose.proofs.lent_well.Goals as goal
 
@@ -8,19 +8,6 @@ returns-then-records-ne0 c = lent-parts _ _ c.if-records-ne0.true
 
 pub loop-i-init : goal.loop-i-init
 loop-i-init c = lent-all _ _ c.if-records-ne0.false
-
-pub returns-then-not-held_by : goal.returns-then-not-held_by
-returns-then-not-held_by c =
-    let l = c.loop-i in
-    lent_kind _ _ l.i l.message l.prune _ l.invariant c.loop-i-test.true c.row_at-r.ensures
-    c.held_by.ensures c.if-not-held_by.true
-
-pub returns-then-not-row_inside : goal.returns-then-not-row_inside
-returns-then-not-row_inside c =
-    let l = c.loop-i in
-    lent_row _ _ l.i l.message l.prune _ l.invariant c.loop-i-test.true c.row_at-r.ensures
-    c.held_by.ensures c.if-not-held_by.false c.row_inside.ensures
-    c.if-not-row_inside.true
 
 pub loop-i-preserved : goal.loop-i-preserved
 loop-i-preserved c =
@@ -37,6 +24,3 @@ loop-i-preserved c =
       | then-is_code-2 w ↦ or-now l.prune n w.if-is_code-2.true w.prune-is
       | else-is_code-2 w ↦ or-then _ n w.if-is_code-2.false w.prune-is
     ])
-
-pub returns : goal.returns
-returns c = let l = c.loop-i in lent-end _ _ l.i l.message l.prune l.invariant c.loop-i-test.false

@@ -1,12 +1,8 @@
 -- `compose::message_row` meets its contract: so many messages were passed before row i.
 use native.Mathlib.Omega.{arith}
-use borrow.Author.Rules.{rules}
-use Rattle.compose.proofs.Tests.{passed_none, passed-all, passed_skip, passed-one, passed-found}
+use Rattle.compose.proofs.Tests.{passed-all, passed_skip, passed-one, passed-found}
 use Rattle.compose.proofs.message_row.Goals.{then-is_code+else-count-index, else-is_code}
 use Rattle.compose.proofs.message_row.Goals as goal
-
-pub loop-i-init : goal.loop-i-init
-loop-i-init c = (search rules, search rules, passed_none _ _)
 
 pub returns-then-count-index : goal.returns-then-count-index
 returns-then-count-index c =

@@ -1,7 +1,5 @@
 -- `compose::messages_fine` meets its contract: what the messages from row i on say is what all of them do.
-use Prim.Native.Nat.{◌-◌, ◌/◌}
 use mathlib.Core.Path.{◌≡◌}
-use lib.ListN.{length}
 use Rattle.compose.specs.Lent.{rows_from, lent_rows}
 use Rattle.compose.specs.Said.{messages_in}
 use Rattle.compose.specs.Weighed.{first_unfit}
@@ -10,6 +8,3 @@ use Rattle.compose.proofs.messages_fine.Given as goal
 abbrev pub invariant-loop-i : goal.invariant-loop-i
 invariant-loop-i l =
     first_unfit l.flags (messages_in l.bytes (rows_from l.records l.i)) ≡ first_unfit l.flags (messages_in l.bytes (lent_rows l.records))
-
-abbrev pub decreases-loop-i : goal.decreases-loop-i
-decreases-loop-i l = length l.records / 20 - l.i

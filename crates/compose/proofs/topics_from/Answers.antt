@@ -2,18 +2,15 @@
 use Prim.Native.Nat.{◌+◌}
 use native.Mathlib.Omega.{arith}
 use lib.ListN.{length}
-use borrow.Author.Rules.{rules}
 use Rattle.meaning.specs.ReadBack.{raw_of}
 use Rattle.compose.specs.Lent.{rows_from}
 use Rattle.compose.specs.Said.{topics_from}
 use Rattle.compose.proofs.Parts.{row_inside-is}
-use Rattle.compose.proofs.Tests.{inside-row, long-now, long-later, long-before, counted-all, counted-done, counted_same, counted-more}
+use Rattle.compose.proofs.Tests.{inside-row, long-now, long-later, long-before, counted-done, counted_same, counted-more}
 use Rattle.compose.proofs.Tests.{topics-end, topics-stop, topics_skip, topics-one, raw-length}
-use Rattle.compose.proofs.topics_from.Goals.{then-is_code-2+then-long-eq0+then-len-gt-MAX_TOPIC_SIZE, then-is_code-2+then-long-eq0+else-len-gt-MAX_TOPIC_SIZE, then-is_code-2+else-long-eq0, else-is_code-2}
+use Rattle.compose.proofs.topics_from.Goals.{then-is_code-2+then-long-eq0+then-len-gt-MAX_TOPIC_SIZE, then-is_code-2+else-long-eq0, else-is_code-2}
+use Rattle.compose.proofs.topics_from.Goals.{else-long-eq0-via-then-long-eq0+else-len-gt-MAX_TOPIC_SIZE, else-long-eq0-via-else-long-eq0}
 use Rattle.compose.proofs.topics_from.Goals as goal
-
-pub loop-i-init : goal.loop-i-init
-loop-i-init c = (search rules, counted-all _)
 
 pub returns-then-is_code : goal.returns-then-is_code
 returns-then-is_code c =
@@ -44,19 +41,16 @@ loop-i-preserved c =
                 (topics-one t b l.i h e c.if-is_code.false f w.if-is_code-2.true r.result r.ensures) w.count-is
                 (long-now _ rest _ (raw-length t b l.i h r.result c.requires r.ensures) _ _ w.if-long-eq0.true w.if-len-gt-MAX_TOPIC_SIZE.true w.long-is),
           )
-      | then-is_code-2+then-long-eq0+else-len-gt-MAX_TOPIC_SIZE w ↦
-          let r = w.row_at-r in (
-            omega arith,
-            counted-more _ _ _ _ g (raw_of b r.result) rest _ _
-                (topics-one t b l.i h e c.if-is_code.false f w.if-is_code-2.true r.result r.ensures) w.count-is
-                (long-later _ rest _ (raw-length t b l.i h r.result c.requires r.ensures) _ _ w.if-long-eq0.true w.if-len-gt-MAX_TOPIC_SIZE.false w.long-is),
-          )
       | then-is_code-2+else-long-eq0 w ↦
-          let r = w.row_at-r in (
+          let r = w.row_at-r in
+          let s = raw-length t b l.i h r.result c.requires r.ensures in (
             omega arith,
             counted-more _ _ _ _ g (raw_of b r.result) rest _ _
                 (topics-one t b l.i h e c.if-is_code.false f w.if-is_code-2.true r.result r.ensures) w.count-is
-                (long-before _ rest _ (raw-length t b l.i h r.result c.requires r.ensures) _ _ w.if-long-eq0.false w.long-is),
+                (elim w.else-long-eq0.branch [
+                  | else-long-eq0-via-then-long-eq0+else-len-gt-MAX_TOPIC_SIZE u ↦ long-later _ rest _ s _ _ u.if-long-eq0.true u.if-len-gt-MAX_TOPIC_SIZE.false w.long-is
+                  | else-long-eq0-via-else-long-eq0 u ↦ long-before _ rest _ s _ _ u.if-long-eq0.false w.long-is
+                ]),
           )
       | else-is_code-2 w ↦
           (omega arith, counted_same _ _ _ _ g rest _ _ (topics_skip t b l.i h e c.if-is_code.false f w.if-is_code-2.false) w.count-is w.long-is)

@@ -1,28 +1,27 @@
--- `compose::weigh` meets its contract: each test asks for its field, and they are passed one after the other.
-use Rattle.compose.proofs.Tests.{message-places, weighed-by}
+-- `compose::weigh` meets its contract: each place that is asked for lies within the bytes.
+use Rattle.compose.proofs.Tests.{message-places}
 use Rattle.compose.proofs.weigh.Goals as goal
 
-pub from_fine-a-requires : goal.from_fine-a-requires
-from_fine-a-requires c =
+pub field_at-from-requires : goal.field_at-from-requires
+field_at-from-requires c =
     let a = c.args in
-    (message-places a.records.now a.bytes.now a.i _ c.requires.inside
-    c.requires.message_row.0 c.requires.message_row.1 c.row_at-r.ensures).from
+    let m = c.requires.message_row in
+    (message-places a.records.now a.bytes.now a.i _ c.requires.inside m.0 m.1 c.row_at-r.ensures).from
 
-pub seqno_fine-b-requires : goal.seqno_fine-b-requires
-seqno_fine-b-requires c =
+pub field_at-requires : goal.field_at-requires
+field_at-requires c =
     let a = c.args in
-    (message-places a.records.now a.bytes.now a.i _ c.requires.inside c.requires.message_row.0 c.requires.message_row.1
-    c.row_at-r.ensures).seqno
+    let m = c.requires.message_row in
+    (message-places a.records.now a.bytes.now a.i _ c.requires.inside m.0 m.1 c.row_at-r.ensures).seqno
 
-pub backed_fine-c-requires : goal.backed_fine-c-requires
-backed_fine-c-requires c =
+pub field_at-signature-requires : goal.field_at-signature-requires
+field_at-signature-requires c =
     let a = c.args in
-    let m = message-places a.records.now a.bytes.now a.i _ c.requires.inside c.requires.message_row.0 c.requires.message_row.1 c.row_at-r.ensures in
-    (m.from, m.signature, m.key)
+    let m = c.requires.message_row in
+    (message-places a.records.now a.bytes.now a.i _ c.requires.inside m.0 m.1 c.row_at-r.ensures).signature
 
-pub returns : goal.returns
-returns c =
+pub field_at-key-requires : goal.field_at-key-requires
+field_at-key-requires c =
     let a = c.args in
-    weighed-by a.flags a.bytes.now _ _ _ _ _ _ _ _ _ _ _ c.row_at-r.ensures c.allows_unsigned.ensures
-    c.from_fine-a.ensures c.seqno_fine-b.ensures c.backed_fine-c.ensures c.limits_fine-d.ensures
-    c.first.ensures c.first-2.ensures c.first-3.ensures
+    let m = c.requires.message_row in
+    (message-places a.records.now a.bytes.now a.i _ c.requires.inside m.0 m.1 c.row_at-r.ensures).key

@@ -15,7 +15,7 @@ pub emit_merged-len-requires : goal.emit_merged-len-requires
 emit_merged-len-requires c =
     let a = c.args in
     let x = merged_of Groups a.kind a.n a.body.now in measure_fits a.n _ x a.at
-    (ap (λ (t : Bool). cond t (bytes_field a.n x) []) (sym c.has_field-there.ensures ∙ c.if-there.true))
+    (ap (λ (t : Bool). cond t (bytes_field a.n x) []) (sym c.has_field.ensures ∙ c.if-not-has_field.false))
     c.requires.1
 
 pub emit_head-i-requires : goal.emit_head-i-requires
@@ -23,8 +23,7 @@ emit_head-i-requires c =
     let a = c.args in
     let x = merged_of Groups a.kind a.n a.body.now in (
       c.requires.0,
-      head-fits a.n _ x a.at (ap (λ (t : Bool). cond t (bytes_field a.n x) []) (sym c.has_field-there.ensures
-          ∙ c.if-there.true)) c.requires.1 _ _ _
+      head-fits a.n _ x a.at (ap (λ (t : Bool). cond t (bytes_field a.n x) []) (sym c.has_field.ensures ∙ c.if-not-has_field.false)) c.requires.1 _ _ _
           c.emit_merged-len.ensures,
     )
 
@@ -33,8 +32,7 @@ overflow_add-i c =
     let a = c.args in
     let x = merged_of Groups a.kind a.n a.body.now in
     let z = sum_fits a.n _ x a.at
-    (ap (λ (t : Bool). cond t (bytes_field a.n x) []) (sym c.has_field-there.ensures
-    ∙ c.if-there.true))
+    (ap (λ (t : Bool). cond t (bytes_field a.n x) []) (sym c.has_field.ensures ∙ c.if-not-has_field.false))
     c.requires.1 _ _ _
     c.emit_merged-len.ensures _ _ _ c.emit_head-i.ensures in omega arith
 
@@ -43,8 +41,7 @@ overflow_add-result c =
     let a = c.args in
     let x = merged_of Groups a.kind a.n a.body.now in
     let z = sum_fits a.n _ x a.at
-    (ap (λ (t : Bool). cond t (bytes_field a.n x) []) (sym c.has_field-there.ensures
-    ∙ c.if-there.true))
+    (ap (λ (t : Bool). cond t (bytes_field a.n x) []) (sym c.has_field.ensures ∙ c.if-not-has_field.false))
     c.requires.1 _ _ _
     c.emit_merged-len.ensures _ _ _ c.emit_head-i.ensures in omega arith
 
@@ -53,8 +50,7 @@ returns-then-out-i c =
     let a = c.args in
     let x = merged_of Groups a.kind a.n a.body.now in
     field-short a.n _ x a.at
-    (ap (λ (t : Bool). cond t (bytes_field a.n x) []) (sym c.has_field-there.ensures
-    ∙ c.if-there.true))
+    (ap (λ (t : Bool). cond t (bytes_field a.n x) []) (sym c.has_field.ensures ∙ c.if-not-has_field.false))
     c.requires.1 _ _ _
     c.emit_merged-len.ensures _ _ _ c.emit_head-i.ensures (search rules)
     c.if-out-i.true
@@ -65,25 +61,23 @@ emit_merged-requires c =
     let x = merged_of Groups a.kind a.n a.body.now in
     value-fits a.n _ x a.at
     (ap (λ (t : Bool). cond t (bytes_field a.n x) [])
-    (sym c.has_field-there.ensures
-    ∙ c.if-there.true))
+    (sym c.has_field.ensures ∙ c.if-not-has_field.false))
     c.requires.1 _ _ _
     c.emit_merged-len.ensures _ _ _ c.emit_head-i.ensures
 
-pub returns-then-there : goal.returns-then-there
-returns-then-there c =
+pub returns : goal.returns
+returns c =
     let a = c.args in
     let x = merged_of Groups a.kind a.n a.body.now in
     field_puts a.n _ x a.at
     (ap (λ (t : Bool). cond t (bytes_field a.n x) [])
-    (sym c.has_field-there.ensures
-    ∙ c.if-there.true))
+    (sym c.has_field.ensures ∙ c.if-not-has_field.false))
     c.requires.1 _ _ _
     c.emit_merged-len.ensures _ _ _
     c.emit_head-i.ensures _ _ c.emit_merged.ensures
 
-pub returns : goal.returns
-returns c =
+pub returns-then-not-has_field : goal.returns-then-not-has_field
+returns-then-not-has_field c =
     let a = c.args in let x = merged_of Groups a.kind a.n a.body.now in puts_same a.out.now
-    a.at [] _ _ _ (sym (ap (λ (t : Bool). cond t (bytes_field a.n x) []) (sym c.has_field-there.ensures ∙ c.if-there.false)))
+    a.at [] _ _ _ (sym (ap (λ (t : Bool). cond t (bytes_field a.n x) []) (sym c.has_field.ensures ∙ c.if-not-has_field.true)))
     (puts_none a.out.now a.at)

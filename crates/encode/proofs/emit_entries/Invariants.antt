@@ -16,9 +16,9 @@ use Rattle.encode.proofs.emit_entries.Given as goal
 abbrev pub entry : Kind → ℕ → List ℕ → List ℕ
 entry j m p = held_part Groups (canon Groups) m p (held_of (row_of j m))
 
-abbrev pub invariant-loop-i : goal.invariant-loop-i
-invariant-loop-i l =
+abbrev pub invariant-loop-f : goal.invariant-loop-f
+invariant-loop-f l =
     Going l.initial.out l.at (entries_of Groups l.kind l.n l.body l.m) l.out l.end (each_along (entry l.kind l.m) l.n l.body (walk_at Groups l.body l.i)) × (length l.out ≡ length l.initial.out)
 
-abbrev pub decreases-loop-i : goal.decreases-loop-i
-decreases-loop-i l = length l.body - l.i
+abbrev pub decreases-loop-f : goal.decreases-loop-f
+decreases-loop-f l = length l.body - l.i

@@ -1,8 +1,19 @@
 -- `encode::emit_own` meets its contract: the role picks the case.
-use mathlib.Core.Path.{sym, ap}
-use Rattle.canon.specs.Canon.{own_part}
+use mathlib.Core.Path.{◌≡◌, sym, ap}
+use mathlib.Core.List.{List, []}
+use mathlib.Core.Logic.{◌⊎◌, inl, inr}
+use Prim.Native.Nat.{ℕ}
+use Rattle.schema.specs.declared.Role.{Role}
+use Rattle.schema.specs.declared.Role.TheVariants.{Text, Bytes}
+use Rattle.schema.specs.declared.Slots.{Slots}
+use Rattle.canon.specs.Canon.{placed, slot_in, own_part}
 use Rattle.encode.specs.Puts.{puts_none, puts_same, fits-same}
 use Rattle.encode.proofs.emit_own.Goals as goal
+
+slot_part : (t : Slots) (n : ℕ) (s : List ℕ) (r : Role) (slot : ℕ) → (r ≡ Text slot) ⊎ (r ≡ Bytes slot) → own_part t n s r ≡ placed n s (slot_in slot t)
+unfolding own_part
+slot_part t n s r slot (inl h) = rw h
+slot_part t n s r slot (inr h) = rw h
 
 pub emit_number-requires : goal.emit_number-requires
 unfolding own_part
@@ -12,73 +23,26 @@ emit_number-requires c =
     (pre.0, fits-same a.at _ _ (ap (own_part a.slots a.n a.input.now) c.in-Number.is) pre.2)
 
 pub emit_slot-requires : goal.emit_slot-requires
-unfolding own_part
 emit_slot-requires c =
     let a = c.args in
     let pre = c.requires in
-    (pre.0, pre.1, fits-same a.at _ _ (ap (own_part a.slots a.n a.input.now) c.in-Text.is) pre.2)
-
-pub emit_slot-requires-in-Bytes : goal.emit_slot-requires-in-Bytes
-unfolding own_part
-emit_slot-requires-in-Bytes c =
-    let a = c.args in
-    let pre = c.requires in
-    (pre.0, pre.1, fits-same a.at _ _ (ap (own_part a.slots a.n a.input.now) c.in-Bytes.is) pre.2)
+    (pre.0, pre.1, fits-same a.at _ _ (slot_part a.slots a.n a.input.now a.role _ c.in-Text.is) pre.2)
 
 pub returns-in-Skip : goal.returns-in-Skip
 unfolding own_part
 returns-in-Skip c =
     let a = c.args in
-    puts_same a.out.now a.at _ _ _ _ (sym (ap (own_part a.slots a.n a.input.now) c.in-Skip.is))
-    (puts_none a.out.now a.at)
+    let e : own_part a.slots a.n a.input.now a.role ≡ [] =
+    elim c.in-Skip.is [ inl h ↦ rw h | inr o ↦ elim o [ inl h ↦ rw h.1 | inr o ↦ elim o [ inl h ↦ rw h | inr o ↦ elim o [ inl h ↦ rw h | inr h ↦ rw h.2 ] ] ] ] in
+    puts_same a.out.now a.at _ _ _ _ (sym e) (puts_none a.out.now a.at)
 
 pub returns-in-Number : goal.returns-in-Number
 unfolding own_part
 returns-in-Number c =
     let a = c.args in
-    puts_same a.out.now a.at _ _ _ _ (sym
-    (ap (own_part a.slots a.n a.input.now) c.in-Number.is))
-    c.emit_number.ensures
+    puts_same a.out.now a.at _ _ _ _ (sym (ap (own_part a.slots a.n a.input.now) c.in-Number.is)) c.emit_number.ensures
 
 pub returns-in-Text : goal.returns-in-Text
-unfolding own_part
 returns-in-Text c =
     let a = c.args in
-    puts_same a.out.now a.at _ _ _ _ (sym (ap (own_part a.slots a.n a.input.now)
-    c.in-Text.is)) c.emit_slot.ensures
-
-pub returns-in-Bytes : goal.returns-in-Bytes
-unfolding own_part
-returns-in-Bytes c =
-    let a = c.args in
-    puts_same a.out.now a.at _ _ _ _ (sym
-    (ap (own_part a.slots a.n a.input.now) c.in-Bytes.is))
-    c.emit_slot-in-Bytes.ensures
-
-pub returns-in-Unsigned : goal.returns-in-Unsigned
-unfolding own_part
-returns-in-Unsigned c =
-    let a = c.args in
-    puts_same a.out.now a.at _ _ _ _ (sym (ap (own_part a.slots a.n a.input.now) c.in-Unsigned.is))
-    (puts_none a.out.now a.at)
-
-pub returns-in-Topic : goal.returns-in-Topic
-unfolding own_part
-returns-in-Topic c =
-    let a = c.args in
-    puts_same a.out.now a.at _ _ _ _ (sym (ap (own_part a.slots a.n a.input.now) c.in-Topic.is))
-    (puts_none a.out.now a.at)
-
-pub returns-in-MessageId : goal.returns-in-MessageId
-unfolding own_part
-returns-in-MessageId c =
-    let a = c.args in
-    puts_same a.out.now a.at _ _ _ _ (sym (ap (own_part a.slots a.n a.input.now) c.in-MessageId.is))
-    (puts_none a.out.now a.at)
-
-pub returns-in-Sub : goal.returns-in-Sub
-unfolding own_part
-returns-in-Sub c =
-    let a = c.args in
-    puts_same a.out.now a.at _ _ _ _ (sym (ap (own_part a.slots a.n a.input.now) c.in-Sub.is))
-    (puts_none a.out.now a.at)
+    puts_same a.out.now a.at _ _ _ _ (sym (slot_part a.slots a.n a.input.now a.role _ c.in-Text.is)) c.emit_slot.ensures

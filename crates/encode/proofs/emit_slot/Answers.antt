@@ -10,7 +10,7 @@ pub emit_place-requires : goal.emit_place-requires
 emit_place-requires c =
     let pre = c.requires in
     let a = c.args in
-    let e = sym c.slot_in-place.ensures in (
+    let e = sym c.slot_in.ensures in (
       pre.0,
       subst (PlaceInside a.input.now) e (slot_inside a.input.now a.slots a.slot pre.1),
       fits-same a.at _ _
@@ -20,5 +20,5 @@ emit_place-requires c =
 pub returns : goal.returns
 returns c =
     let a = c.args in
-    puts_same a.out.now a.at _ _ _ _ (ap (placed a.n a.input.now) c.slot_in-place.ensures)
+    puts_same a.out.now a.at _ _ _ _ (ap (placed a.n a.input.now) c.slot_in.ensures)
     c.emit_place.ensures

@@ -1,91 +1,57 @@
 -- `encode::emit_whole` meets its contract. The loop's invariant: what is left along the fields, written at the end of what was written, makes
 -- all of it.
-use Prim.Native.Nat.{◌-◌, ◌≤◌}
-use mathlib.Core.Path.{refl, sym, ap, ◌∙◌}
-use mathlib.Core.List.{[]}
-use mathlib.Core.Bool.{cond}
+use mathlib.Core.Path.{◌≡◌, refl, sym, ap, ◌∙◌}
 use native.Mathlib.Omega.{arith}
-use lib.ListN.{length}
-use Rattle.protobuf.specs.declared.Step.TheVariants as step
-use Rattle.protobuf.specs.Laws.{field-stands}
-use Rattle.protobuf.specs.Walk.{walk_at, fields_of, is_bytes, value_in}
-use Rattle.protobuf.specs.WalkLaws.{walk_on, walk_end}
+use Rattle.std.specs.Prelude.{None, Ok}
+use Rattle.protobuf.specs.Field.{read_field}
+use Rattle.protobuf.specs.Walk.{fields_of}
 use Rattle.protobuf.specs.Encode.{bytes_field}
 use Rattle.canon.specs.Canon.{each_along}
-use Rattle.encode.specs.Puts.{going-all, going-none, going-fits, going-part}
-use Rattle.encode.proofs.Parts.{each-field}
+use Rattle.encode.specs.Puts.{going-all}
+use Rattle.encode.proofs.Parts.{walk-end, walk-refused, walk-within, walk-moves, walk-fits, walk-turn}
 use Rattle.basis.specs.declared.Mode.TheVariants.{Groups}
 use Rattle.encode.proofs.emit_whole.Goals as goal
 
-pub loop-i-init : goal.loop-i-init
-loop-i-init c =
-    let a = c.args in (
-      going-all a.out.now a.at (each_along (bytes_field a.n) a.n a.input.now (fields_of Groups a.input.now))
-          c.requires.1,
-      refl,
-    )
-
-pub shape_of-out-in-End : goal.shape_of-out-in-End
-shape_of-out-in-End c = let k = c.loop-i.invariant.1 in omega arith
-
-pub returns-in-End : goal.returns-in-End
-returns-in-End c =
-    let l = c.loop-i in
-    let a = c.args in
-    going-none _ _ _ _ _ _ l.invariant.0 (ap (each_along (bytes_field a.n) a.n a.input.now)
-    (walk_on Groups a.input.now l.i step.End (sym c.in-End.is ∙ c.read_field-step.ensures)))
-
-pub shape_of-out-in-Refused : goal.shape_of-out-in-Refused
-shape_of-out-in-Refused c = let k = c.loop-i.invariant.1 in omega arith
-
-pub returns-in-Refused : goal.returns-in-Refused
-returns-in-Refused c =
-    let l = c.loop-i in
-    let a = c.args in
-    going-none _ _ _ _ _ _ l.invariant.0 (ap (each_along (bytes_field a.n) a.n a.input.now)
-    (walk_on Groups a.input.now l.i _ (sym c.in-Refused.is ∙ c.read_field-step.ensures)))
+pub loop-f-init : goal.loop-f-init
+loop-f-init c =
+    let a = c.args in (going-all a.out.now a.at (each_along (bytes_field a.n) a.n a.input.now (fields_of Groups a.input.now)) c.requires.1, refl)
 
 pub emit_there-end-requires : goal.emit_there-end-requires
 emit_there-end-requires c =
-    let l = c.loop-i in
     let a = c.args in
-    let pre = c.requires in
-    let e = sym c.in-At.is ∙ c.read_field-step.ensures in
-    let f = c.in-At.f in
-    let x = cond (is_bytes a.n f) (bytes_field a.n (value_in a.input.now f)) [] in
-    let o = each_along (bytes_field a.n) a.n a.input.now (walk_at Groups a.input.now f.next) in
-    let m = field-stands Groups a.input.now l.i f e in (
-      pre.0,
-      record { order = m.ends; fits = m.within },
-      going-fits _ _ _ _ _ _ l.invariant.0 x o
-          (each-field Groups (bytes_field a.n) a.n a.input.now l.i f e),
-    )
+    let l = c.loop-f in
+    let e = ap Ok (sym c.in-Ok-Some.field-0-is) ∙ c.in-Ok-Some.ensures in
+    (c.requires.0, walk-within (bytes_field a.n) a.n a.input.now _ _ _ _ _ _ l.invariant.0 _ e, walk-fits (bytes_field a.n) a.n a.input.now _ _ _ _ _ _ l.invariant.0 _ e)
 
-pub loop-i-smaller : goal.loop-i-smaller
-loop-i-smaller c =
-    let read-field = c.read_field-step in
-    let l = c.loop-i in
+pub loop-f-smaller : goal.loop-f-smaller
+loop-f-smaller c =
     let a = c.args in
-    let m = field-stands Groups a.input.now l.i _ (sym c.in-At.is ∙ read-field.ensures) in
-    omega arith
+    let l = c.loop-f in
+    walk-moves (bytes_field a.n) a.n a.input.now _ _ _ _ _ _ l.invariant.0 _ (ap Ok (sym c.in-Ok-Some.field-0-is) ∙ c.in-Ok-Some.ensures)
 
-pub loop-i-preserved : goal.loop-i-preserved
-loop-i-preserved c =
+pub loop-f-preserved : goal.loop-f-preserved
+loop-f-preserved c =
     let a = c.args in
-    let l = c.loop-i in
-    let e = sym c.in-At.is ∙ c.read_field-step.ensures in
-    let f = c.in-At.f in
-    let x = cond (is_bytes a.n f) (bytes_field a.n (value_in a.input.now f)) [] in
-    let o = each_along (bytes_field a.n) a.n a.input.now (walk_at Groups a.input.now f.next) in
+    let l = c.loop-f in
+    let e = ap Ok (sym c.in-Ok-Some.field-0-is) ∙ c.in-Ok-Some.ensures in
     let k = l.invariant.1 in
-    (going-part _ _ _ _ _ _ l.invariant.0 x o (each-field Groups (bytes_field a.n) a.n a.input.now l.i f e) _ _ c.emit_there-end.ensures, omega arith)
+    (walk-turn (bytes_field a.n) a.n a.input.now _ _ _ _ _ _ l.invariant.0 _ e _ _ c.emit_there-end.ensures, omega arith)
 
-pub shape_of-out : goal.shape_of-out
-shape_of-out c = let k = c.loop-i.invariant.1 in omega arith
+pub shape_of-out-in_default : goal.shape_of-out-in_default
+shape_of-out-in_default c = let k = c.loop-f.invariant.1 in omega arith
 
-pub returns : goal.returns
-returns c =
+pub returns-in_default : goal.returns-in_default
+returns-in_default c =
     let a = c.args in
-    let l = c.loop-i in
-    let h : length a.input.now ≤ l.i = omega arith in
-    going-none _ _ _ _ _ _ l.invariant.0 (ap (each_along (bytes_field a.n) a.n a.input.now) (walk_end Groups a.input.now l.i h))
+    let l = c.loop-f in
+    let e : Ok None ≡ read_field Groups a.input.now l.i = cc in
+    walk-end (bytes_field a.n) a.n a.input.now _ _ _ _ _ _ l.invariant.0 e
+
+pub shape_of-out-in_default-2 : goal.shape_of-out-in_default-2
+shape_of-out-in_default-2 c = let k = c.loop-f.invariant.1 in omega arith
+
+pub returns-in_default-2 : goal.returns-in_default-2
+returns-in_default-2 c =
+    let a = c.args in
+    let l = c.loop-f in
+    walk-refused (bytes_field a.n) a.n a.input.now _ _ _ _ _ _ l.invariant.0 _ (sym c.in_default.is ∙ c.read_field.ensures)

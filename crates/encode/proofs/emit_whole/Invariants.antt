@@ -10,9 +10,9 @@ use Rattle.encode.specs.Puts.{Going}
 use Rattle.basis.specs.declared.Mode.TheVariants.{Groups}
 use Rattle.encode.proofs.emit_whole.Given as goal
 
-abbrev pub invariant-loop-i : goal.invariant-loop-i
-invariant-loop-i l =
+abbrev pub invariant-loop-f : goal.invariant-loop-f
+invariant-loop-f l =
     Going l.initial.out l.at (each_of Groups (bytes_field l.n) l.n l.input) l.out l.end (each_along (bytes_field l.n) l.n l.input (walk_at Groups l.input l.i)) × (length l.out ≡ length l.initial.out)
 
-abbrev pub decreases-loop-i : goal.decreases-loop-i
-decreases-loop-i l = length l.input - l.i
+abbrev pub decreases-loop-f : goal.decreases-loop-f
+decreases-loop-f l = length l.input - l.i

@@ -1,6 +1,7 @@
 -- `encode::put_head` meets its contract: both varints are measured, and written where they fit.
 use Prim.Native.Nat.{ℕ, ◌+◌, ◌*◌}
 use mathlib.Core.Path.{ap}
+use mathlib.Core.Logic.{inl, inr}
 use native.Mathlib.Omega.{arith}
 use Rattle.peer_id.specs.Laws.{at_most_ten}
 use Rattle.encode.proofs.Heads.{no_field, no_place, head-short, head-put}
@@ -9,12 +10,7 @@ use Rattle.encode.proofs.put_head.Goals as goal
 pub returns-then-n-gt-MAX_FIELD_NUMBER : goal.returns-then-n-gt-MAX_FIELD_NUMBER
 returns-then-n-gt-MAX_FIELD_NUMBER c =
     let a = c.args in
-    no_field a.n a.len a.at a.out.now (omega arith)
-
-pub returns-then-at-gt-MAX_PLACE : goal.returns-then-at-gt-MAX_PLACE
-returns-then-at-gt-MAX_PLACE c =
-    let a = c.args in
-    no_place a.n a.len a.at a.out.now (omega arith) (omega arith)
+    elim c.then-n-gt-MAX_FIELD_NUMBER.either [ inl h ↦ no_field a.n a.len a.at a.out.now h | inr h ↦ no_place a.n a.len a.at a.out.now (omega arith) (omega arith) ]
 
 pub overflow_add-i : goal.overflow_add-i
 overflow_add-i c =

@@ -1,4 +1,5 @@
 -- `encode::sign_part` meets its contract: measured where the room may be short, and written where it fits.
+use Prim.Native.Nat.{◌≤◌}
 use mathlib.Core.Path.{ap}
 use native.Mathlib.Omega.{arith}
 use lib.ListN.{length}
@@ -7,6 +8,7 @@ use Rattle.canon.specs.Canon.{sign_of}
 use Rattle.encode.proofs.Signs.{sign_fits}
 use Rattle.encode.proofs.Parts.{too_short, all-put, measured}
 use Rattle.basis.specs.declared.Mode.TheVariants.{Groups}
+use Rattle.encode.proofs.sign_part.Goals.{then-out-part+else-out-needed, else-out-part}
 use Rattle.encode.proofs.sign_part.Goals as goal
 
 pub emit_signed-needed-requires : goal.emit_signed-needed-requires
@@ -24,25 +26,17 @@ returns-then-out-needed c =
 pub emit_signed-requires : goal.emit_signed-requires
 emit_signed-requires c = let h = c.requires in omega arith
 
-pub returns-then-out-part : goal.returns-then-out-part
-returns-then-out-part c =
-    let a = c.args in
-    let x = sign_of Groups a.part.now in
-    let r = all-put x a.out.now _ (measured x _ _ _ c.emit_signed-needed.ensures) c.if-out-needed.false _ _ c.emit_signed.ensures in record {
-      value = ap of_written r.0;
-      out_after = r.1;
-    }
-
-pub emit_signed-end-requires : goal.emit_signed-end-requires
-emit_signed-end-requires c = let h = c.requires in omega arith
-
 pub returns : goal.returns
 returns c =
     let a = c.args in
     let x = sign_of Groups a.part.now in
-    let e = measured x _ _ _ c.emit_signed-end.ensures in
-    let l = sign_fits Groups a.part.now (length a.out.now) c.requires.0 c.if-out-part.false in
-    let r = all-put x a.out.now _ e (omega arith) _ _ c.emit_signed-end.ensures in record {
+    let l : length x ≤ length a.out.now =
+    elim c.if-out-part.branch [
+      | then-out-part+else-out-needed w ↦ let e = measured x _ _ _ w.emit_signed-needed.ensures in omega (arith, e, w.if-out-needed.false)
+      | else-out-part w ↦ sign_fits Groups a.part.now (length a.out.now) c.requires.0 w.if-out-part.false
+    ] in
+    let e = measured x _ _ _ c.emit_signed.ensures in
+    let r = all-put x a.out.now _ e (omega (arith, e, l)) _ _ c.emit_signed.ensures in record {
       value = ap of_written r.0;
       out_after = r.1;
     }

@@ -6,4 +6,4 @@ use Rattle.ids.proofs.id_parts.Goals as goal
 
 pub returns : goal.returns
 unfolding id_parts
-returns c = c.id_of.ensures ∙ ap (λ (t : Slots). on_from t.first t.third) c.slots_of-slots.ensures
+returns c = c.id_of.ensures ∙ ap (λ (t : Slots). on_from t.first t.third) c.slots_of-from.ensures

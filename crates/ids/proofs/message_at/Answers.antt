@@ -1,60 +1,59 @@
 -- `ids::message_at` meets its contract: what the fields from here on give, with n messages passed, is what all of them give.
-use Prim.Native.Nat.{◌-◌}
-use mathlib.Core.Path.{refl, sym, ◌∙◌}
+use mathlib.Core.Path.{◌≡◌, refl, sym, ap, ◌∙◌}
 use native.Mathlib.Omega.{arith}
-use Rattle.protobuf.specs.Walk.{is_bytes}
-use Rattle.protobuf.specs.Laws.{field-stands}
+use Rattle.std.specs.Prelude.{Some, None, Ok}
+use Rattle.protobuf.specs.Field.{read_field}
+use Rattle.protobuf.specs.Laws.{Stands, field-stands}
 use Rattle.ids.specs.Ids.{message_at}
-use Rattle.basis.specs.Cases.{at_most}
-use Rattle.ids.proofs.Turns.{found_here, found-later, found-end, found-refused, found-past}
+use Rattle.ids.proofs.Turns.{found-end, found-refused, found_here, found-later, found-past}
+use Rattle.ids.proofs.message_at.Goals.{In-Ok-Some}
 use Rattle.ids.proofs.message_at.Goals as goal
 
-pub loop-at-init : goal.loop-at-init
+field_read : (c : In-Ok-Some) → Ok (Some c.in-Ok-Some.f) ≡ read_field c.args.mode c.args.body.now c.loop-f.at
+field_read c = ap Ok (sym c.in-Ok-Some.field-0-is) ∙ c.in-Ok-Some.ensures
+
+stands : (c : In-Ok-Some) → Stands c.args.body.now c.loop-f.at c.in-Ok-Some.f
+stands c = field-stands c.args.mode c.args.body.now c.loop-f.at _ (field_read c)
+
+pub loop-f-init : goal.loop-f-init
 unfolding message_at
-loop-at-init c = (omega arith, omega arith, refl)
+loop-f-init c = (omega arith, omega arith, refl)
 
-pub returns-in-End : goal.returns-in-End
-returns-in-End c =
-    let l = c.loop-at in
-    let a = c.args in
-    sym (l.invariant.2 ∙ found-end a.mode _ _ _ _ (sym c.in-End.is ∙ c.read_field-step.ensures))
+pub returns-then-n-index : goal.returns-then-n-index
+returns-then-n-index c =
+    sym (c.loop-f.invariant.2 ∙ found_here c.args.mode _ _ _ _ _ (field_read (goal.at.returns-then-n-index c).In-Ok-Some)
+    (sym c.is_message.ensures ∙ c.if-is_message.true) c.if-n-index.true)
 
-pub returns-in-Refused : goal.returns-in-Refused
-returns-in-Refused c =
-    let l = c.loop-at in
-    let a = c.args in
-    sym (l.invariant.2 ∙ found-refused a.mode _ _ _ _ _ (sym c.in-Refused.is ∙ c.read_field-step.ensures))
+pub loop-f-smaller-else-n-index : goal.loop-f-smaller-else-n-index
+loop-f-smaller-else-n-index c = let m = stands (goal.at.loop-f-smaller-else-n-index c).In-Ok-Some in omega (arith, m.ends, m.within)
 
-pub returns-then-is_it : goal.returns-then-is_it
-returns-then-is_it c =
-    let l = c.loop-at in
-    let a = c.args in
-    sym (l.invariant.2 ∙ found_here a.mode _ _ _ _ _
-    (sym c.in-At.is ∙ c.read_field-step.ensures)
-    (sym c.is_it.ensures ∙ c.if-is_it.true))
-
-pub loop-at-smaller : goal.loop-at-smaller
-loop-at-smaller c =
-    let l = c.loop-at in
-    let a = c.args in
-    omega (
-      arith,
-      field-stands a.mode a.body.now l.at c.in-At.f
-          (sym c.in-At.is ∙ c.read_field-step.ensures),
+pub loop-f-preserved-else-n-index : goal.loop-f-preserved-else-n-index
+loop-f-preserved-else-n-index c =
+    let p = (goal.at.loop-f-preserved-else-n-index c).In-Ok-Some in
+    let m = stands p in (
+      m.within,
+      omega (arith, m.ends),
+      c.loop-f.invariant.2 ∙ found-later c.args.mode _ _ _ _ _ (field_read p)
+          (sym c.is_message.ensures ∙ c.if-is_message.true) c.if-n-index.false,
     )
 
-pub loop-at-preserved : goal.loop-at-preserved
-loop-at-preserved c =
-    let read-field = c.read_field-step in
-    let l = c.loop-at in
-    let a = c.args in
-    let m = field-stands a.mode a.body.now l.at c.in-At.f (sym c.in-At.is ∙ read-field.ensures) in
-    let k = at_most (is_bytes 2 c.in-At.f) l.n c.messages_after-n.result c.messages_after-n.ensures in (
-      omega (arith, m.within),
-      omega arith,
-      l.invariant.2 ∙ found-later a.mode a.body.now l.at a.index l.n c.messages_after-n.result c.in-At.f
-          (sym c.in-At.is ∙ read-field.ensures) (sym c.is_it.ensures ∙ c.if-is_it.false) c.messages_after-n.ensures,
+pub loop-f-smaller : goal.loop-f-smaller
+loop-f-smaller c = let m = stands (goal.at.loop-f-smaller c).In-Ok-Some in omega (arith, m.ends, m.within)
+
+pub loop-f-preserved : goal.loop-f-preserved
+loop-f-preserved c =
+    let p = (goal.at.loop-f-preserved c).In-Ok-Some in
+    let m = stands p in (
+      m.within,
+      omega (arith, m.ends),
+      c.loop-f.invariant.2 ∙ found-past c.args.mode _ _ _ _ _ (field_read p) (sym c.is_message.ensures ∙ c.if-is_message.false),
     )
 
-pub returns : goal.returns
-returns c = let l = c.loop-at in sym (l.invariant.2 ∙ found-past c.args.mode _ _ _ _ c.loop-at-test.false)
+pub returns-in_default : goal.returns-in_default
+returns-in_default c =
+    let e : Ok None ≡ read_field c.args.mode c.args.body.now c.loop-f.at = cc in
+    sym (c.loop-f.invariant.2 ∙ found-end c.args.mode _ _ _ _ e)
+
+pub returns-in_default-2 : goal.returns-in_default-2
+returns-in_default-2 c =
+    sym (c.loop-f.invariant.2 ∙ found-refused c.args.mode _ _ _ _ _ (sym c.in_default.is ∙ c.read_field.ensures))

@@ -1,114 +1,71 @@
 -- `ids::put_id` meets its contract: measured, then the three parts are written one after the other.
-use Prim.Native.Nat.{◌-◌}
 use mathlib.Core.Path.{sym, ap, ◌∙◌}
 use native.Mathlib.Omega.{arith}
+use Rattle.std.specs.Prelude.{Err}
+use Rattle.std.proofs.lemmas.Result.{err_from_is_err_and}
 use Rattle.ids.specs.Ids.{answer_id, left_id}
-use Rattle.ids.specs.IdLaws.{id-fits}
+use Rattle.ids.specs.IdLaws.{Fits, id-fits}
 use Rattle.ids.proofs.Turns.{id-short, id-put}
+use Rattle.ids.proofs.put_id.Goals.{In_ok-a}
 use Rattle.ids.proofs.put_id.Goals as goal
 
-pub overflow_sub-total : goal.overflow_sub-total
-overflow_sub-total c =
+fits : (c : In_ok-a) → Fits c.args.part.now c.in_ok-a.a c.in_ok-a.e c.in_ok-a.b c.in_ok-a.f
+fits c = id-fits c.args.mode c.args.part.now _ _ _ _ (sym c.in_ok-a.ensures)
+
+pub returns-in_err-a : goal.returns-in_err-a
+returns-in_err-a c =
     let a = c.args in
-    (id-fits a.mode a.part.now _ _ _ _ (sym c.id_parts-id.ensures ∙ c.in-Parts.is)).from.0
+    let e = c.in_err-a.ensures in
+    let p = err_from_is_err_and c.from_residual.result c.from_residual.ensures.1 in record {
+      value = p.1 ∙ ap Err p.2 ∙ ap (answer_id a.before.now a.part.now a.out.now) e;
+      out_after = ap (left_id a.before.now a.part.now a.out.now) e;
+    }
+
+pub overflow_sub-total : goal.overflow_sub-total
+overflow_sub-total c = (fits (goal.at.overflow_sub-total c).In_ok-a).from.0
 
 pub overflow_add-total : goal.overflow_add-total
-overflow_add-total c =
-    let a = c.args in
-    let h = id-fits a.mode a.part.now _ _ _ _ (sym c.id_parts-id.ensures ∙ c.in-Parts.is) in
-    omega (arith, h.from-short)
+overflow_add-total c = let h = fits (goal.at.overflow_add-total c).In_ok-a in omega (arith, h.from-short)
 
-pub overflow_sub-total-in-Parts : goal.overflow_sub-total-in-Parts
-overflow_sub-total-in-Parts c =
-    let a = c.args in
-    (id-fits a.mode a.part.now _ _ _ _ (sym c.id_parts-id.ensures ∙ c.in-Parts.is)).seqno.0
+pub overflow_sub-total-2 : goal.overflow_sub-total-2
+overflow_sub-total-2 c = (fits (goal.at.overflow_sub-total-2 c).In_ok-a).seqno.0
 
-pub overflow_add-total-in-Parts : goal.overflow_add-total-in-Parts
-overflow_add-total-in-Parts c =
-    let a = c.args in
-    let h = id-fits a.mode a.part.now _ _ _ _ (sym c.id_parts-id.ensures ∙ c.in-Parts.is) in
-    omega (arith, h.from-short, h.seqno-short)
+pub overflow_add-total-2 : goal.overflow_add-total-2
+overflow_add-total-2 c = let h = fits (goal.at.overflow_add-total-2 c).In_ok-a in omega (arith, h.from-short, h.seqno-short)
 
 pub returns-then-out-total : goal.returns-then-out-total
 returns-then-out-total c =
     let a = c.args in
-    let e = sym c.id_parts-id.ensures ∙ c.in-Parts.is in
-    let s = id-short a.before.now a.part.now a.out.now _ _ _ _ (id-fits a.mode a.part.now _ _ _ _ e) c.if-out-total.true in record {
-      value = s.0 ∙ ap (answer_id a.before.now a.part.now a.out.now) (sym e);
-      out_after = s.1 ∙ ap (left_id a.before.now a.part.now a.out.now) (sym e);
+    let e = c.in_ok-a.ensures in
+    let s = id-short a.before.now a.part.now a.out.now _ _ _ _ (fits (goal.at.returns-then-out-total c).In_ok-a) c.if-out-total.true in record {
+      value = s.0 ∙ ap (answer_id a.before.now a.part.now a.out.now) e;
+      out_after = s.1 ∙ ap (left_id a.before.now a.part.now a.out.now) e;
     }
 
 pub slice_bounds-put_bytes-count : goal.slice_bounds-put_bytes-count
-slice_bounds-put_bytes-count c =
-    let id-parts = c.id_parts-id in
-    let a = c.args in
-    (id-fits a.mode a.part.now _ _ _ _ (sym id-parts.ensures ∙ c.in-Parts.is)).from.0
+slice_bounds-put_bytes-count c = (fits (goal.at.slice_bounds-put_bytes-count c).In_ok-a).from.0
 
 pub slice_bounds-put_bytes-start : goal.slice_bounds-put_bytes-start
-slice_bounds-put_bytes-start c =
-    let id-parts = c.id_parts-id in
-    let a = c.args in
-    (id-fits a.mode a.part.now _ _ _ _ (sym id-parts.ensures ∙ c.in-Parts.is)).from.0
+slice_bounds-put_bytes-start c = (fits (goal.at.slice_bounds-put_bytes-start c).In_ok-a).from.0
 
 pub slice_bounds-put_bytes-end : goal.slice_bounds-put_bytes-end
-slice_bounds-put_bytes-end c =
-    let id-parts = c.id_parts-id in
-    let a = c.args in
-    (id-fits a.mode a.part.now _ _ _ _ (sym id-parts.ensures ∙ c.in-Parts.is)).from.1
+slice_bounds-put_bytes-end c = (fits (goal.at.slice_bounds-put_bytes-end c).In_ok-a).from.1
 
-pub slice_bounds-put_bytes-count-in-Parts : goal.slice_bounds-put_bytes-count-in-Parts
-slice_bounds-put_bytes-count-in-Parts c =
-    let id-parts = c.id_parts-id in
-    let a = c.args in
-    (id-fits a.mode a.part.now _ _ _ _ (sym id-parts.ensures ∙ c.in-Parts.is)).seqno.0
+pub slice_bounds-put_bytes-count-2 : goal.slice_bounds-put_bytes-count-2
+slice_bounds-put_bytes-count-2 c = (fits (goal.at.slice_bounds-put_bytes-count-2 c).In_ok-a).seqno.0
 
-pub slice_bounds-put_bytes-start-in-Parts : goal.slice_bounds-put_bytes-start-in-Parts
-slice_bounds-put_bytes-start-in-Parts c =
-    let id-parts = c.id_parts-id in
-    let a = c.args in
-    (id-fits a.mode a.part.now _ _ _ _ (sym id-parts.ensures ∙ c.in-Parts.is)).seqno.0
+pub slice_bounds-put_bytes-start-2 : goal.slice_bounds-put_bytes-start-2
+slice_bounds-put_bytes-start-2 c = (fits (goal.at.slice_bounds-put_bytes-start-2 c).In_ok-a).seqno.0
 
-pub slice_bounds-put_bytes-end-in-Parts : goal.slice_bounds-put_bytes-end-in-Parts
-slice_bounds-put_bytes-end-in-Parts c =
-    let id-parts = c.id_parts-id in
-    let a = c.args in
-    (id-fits a.mode a.part.now _ _ _ _ (sym id-parts.ensures ∙ c.in-Parts.is)).seqno.1
+pub slice_bounds-put_bytes-end-2 : goal.slice_bounds-put_bytes-end-2
+slice_bounds-put_bytes-end-2 c = (fits (goal.at.slice_bounds-put_bytes-end-2 c).In_ok-a).seqno.1
 
-pub returns-in-MissingFrom : goal.returns-in-MissingFrom
-returns-in-MissingFrom c =
+pub returns : goal.returns
+returns c =
     let a = c.args in
-    let e = sym c.id_parts-id.ensures ∙ c.in-MissingFrom.is in record {
-      value = ap (answer_id a.before.now a.part.now a.out.now) (sym e);
-      out_after = ap (left_id a.before.now a.part.now a.out.now) (sym e);
-    }
-
-pub returns-in-InvalidFrom : goal.returns-in-InvalidFrom
-returns-in-InvalidFrom c =
-    let a = c.args in
-    let e = sym c.id_parts-id.ensures ∙ c.in-InvalidFrom.is in record {
-      value = ap (answer_id a.before.now a.part.now a.out.now) (sym e);
-      out_after = ap (left_id a.before.now a.part.now a.out.now) (sym e);
-    }
-
-pub returns-in-InvalidSeqno : goal.returns-in-InvalidSeqno
-returns-in-InvalidSeqno c =
-    let a = c.args in
-    let e = sym c.id_parts-id.ensures ∙ c.in-InvalidSeqno.is in record {
-      value = ap (answer_id a.before.now a.part.now a.out.now) (sym e);
-      out_after = ap (left_id a.before.now a.part.now a.out.now) (sym e);
-    }
-
-pub returns-else-out-total : goal.returns-else-out-total
-returns-else-out-total c =
-    let put-bytes2 = c.put_bytes-j in
-    let put_bytes_lem = c.put_bytes-i in
-    let if1 = c.if-out-total in
-    let id-parts = c.id_parts-id in
-    let a = c.args in
-    let e = sym id-parts.ensures ∙ c.in-Parts.is in
-    let s = id-put a.before.now a.part.now a.out.now _ _ _ _ _ _ _ _ _ _ (id-fits a.mode a.part.now _ _ _ _ e)
-    if1.false put_bytes_lem.ensures put-bytes2.ensures c.put_bytes.ensures in record {
-      value = s.0 ∙ ap (answer_id a.before.now a.part.now a.out.now) (sym e);
-      out_after = s.1 ∙ ap
-          (left_id a.before.now a.part.now a.out.now) (sym e);
+    let e = c.in_ok-a.ensures in
+    let s = id-put a.before.now a.part.now a.out.now _ _ _ _ _ _ _ _ _ _ (fits (goal.at.returns c).In_ok-a)
+    c.if-out-total.false c.put_bytes-i.ensures c.put_bytes-j.ensures c.put_bytes.ensures in record {
+      value = s.0 ∙ ap (answer_id a.before.now a.part.now a.out.now) e;
+      out_after = s.1 ∙ ap (left_id a.before.now a.part.now a.out.now) e;
     }

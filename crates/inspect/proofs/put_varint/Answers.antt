@@ -6,12 +6,14 @@ use Rattle.inspect.specs.Answers.{varint}
 use Rattle.lines.specs.Laws.{wrote_puts}
 use Rattle.inspect.proofs.put_varint.Goals as goal
 
-pub returns-in-Refused : goal.returns-in-Refused
+pub returns-in-Ok : goal.returns-in-Ok
 unfolding varint
-returns-in-Refused c =
-    puts_as (ap varint (sym c.in-Refused.is)) (omega arith) (rw c.told_varint.ensures at (wrote_puts (omega arith) c.put_refusal.ensures))
+returns-in-Ok c =
+    puts_as (ap varint (sym c.in-Ok.is)) (omega arith)
+    (puts_then (wrote_puts (omega arith) c.put_value-i.ensures) (wrote_puts (omega arith) c.put_value.ensures))
 
-pub returns-in-Value : goal.returns-in-Value
+pub returns-in-Err : goal.returns-in-Err
 unfolding varint
-returns-in-Value c =
-    puts_as (ap varint (sym c.in-Value.is)) (omega arith) (puts_then (wrote_puts (omega arith) c.put_value-i.ensures) (wrote_puts (omega arith) c.put_value.ensures))
+returns-in-Err c =
+    puts_as (ap varint (sym c.in-Err.is)) (omega arith)
+    (rw c.told_varint.ensures at (wrote_puts (omega arith) c.put_refusal.ensures))

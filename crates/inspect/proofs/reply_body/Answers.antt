@@ -9,27 +9,11 @@ slice_bounds-reply_encode-end-in-2 c = prefix 65536 c.args.made.now (omega arith
 
 pub reply_encode-requires : goal.reply_encode-requires
 reply_encode-requires c =
-    record {
-      made_len_bound = front-small 65536 65600 c.args.made.now (omega arith);
-      in_bounds = omega arith;
-    }
-
-pub slice_bounds-reply_sign-end-in-3 : goal.slice_bounds-reply_sign-end-in-3
-slice_bounds-reply_sign-end-in-3 c = prefix 65600 c.args.made.now (omega arith)
-
-pub reply_sign-requires : goal.reply_sign-requires
-reply_sign-requires c =
-    record {
-      made_len_bound = front-small 65600 65600 c.args.made.now (omega arith);
-      in_bounds = omega arith;
-    }
+    front-small 65536 65600 c.args.made.now (omega arith)
 
 pub slice_bounds-reply_id-end-in_default : goal.slice_bounds-reply_id-end-in_default
 slice_bounds-reply_id-end-in_default c = prefix 65536 c.args.made.now (omega arith)
 
 pub reply_id-requires : goal.reply_id-requires
 reply_id-requires c =
-    record {
-      made_len_bound = front-small 65536 65600 c.args.made.now (omega arith);
-      in_bounds = omega arith;
-    }
+    front-small 65536 65600 c.args.made.now (omega arith)

@@ -1,40 +1,33 @@
 -- `key::decode_protobuf` meets its contract.
-use Prim.Native.Nat.{◌+◌}
-use mathlib.Core.Path.{refl, ap, ◌∙◌}
+use mathlib.Core.Path.{sym, ◌∙◌}
 use native.Mathlib.Omega.{arith}
-use borrow.Author.Tests.{lt-ltb, le-ltb}
-use Rattle.key.specs.declared.KeyType.{KeyType}
-use Rattle.key.specs.Decode.{on_data}
-use Rattle.key.proofs.Steps.{read-rest, read-within, key-none, key_other, key-read}
+use Rattle.std.proofs.lemmas.Result.{err_from_is_err_and}
+use Rattle.key.proofs.Steps.{read-within, key_none, key_tag, key-read, known-else, known-then}
 use Rattle.key.proofs.decode_protobuf.Goals as goal
 
-pub returns-then-input-eq0 : goal.returns-then-input-eq0
-returns-then-input-eq0 c = key-none _ c.if-input-eq0.true
+pub returns-then-is_empty : goal.returns-then-is_empty
+returns-then-is_empty c = key_none _ (sym c.is_empty.ensures ∙ c.if-is_empty.true)
 
-pub returns-then-b-ne-TYPE_TAG : goal.returns-then-b-ne-TYPE_TAG
-returns-then-b-ne-TYPE_TAG c = key_other _ c.if-input-eq0.false c.if-b-ne-TYPE_TAG.true
+pub returns-in_err-check_tag : goal.returns-in_err-check_tag
+returns-in_err-check_tag c =
+    let p = err_from_is_err_and c.from_residual.result c.from_residual.ensures.1 in
+    rw (p.1, p.2) (key_tag _ (sym c.is_empty.ensures ∙ c.if-is_empty.false) _ c.in_err-check_tag.ensures)
 
-pub returns-then-value-gt3 : goal.returns-then-value-gt3
-returns-then-value-gt3 c =
-    let s = c.args.input.now in
-    key-read _ _ _ c.if-input-eq0.false c.if-b-ne-TYPE_TAG.false
-    (read-rest s 1 _ _ c.read_uvarint-raw.ensures c.in-Value.is) (simp (lt-ltb _ _ c.if-value-gt3.true))
+pub returns-in_err-value : goal.returns-in_err-value
+returns-in_err-value c =
+    let p = err_from_is_err_and c.from_residual-in_err-value.result c.from_residual-in_err-value.ensures.1 in
+    rw (p.1, p.2) (key-read _ (sym c.is_empty.ensures ∙ c.if-is_empty.false) _ c.in_ok-check_tag.ensures c.in_err-value.ensures)
+
+pub returns-in_err-key_type : goal.returns-in_err-key_type
+returns-in_err-key_type c =
+    let p = err_from_is_err_and c.from_residual-in_err-key_type.result c.from_residual-in_err-key_type.ensures.1 in
+    rw (p.1, p.2) (known-else c.args.input.now c.in_ok-value.value c.in_ok-value.used _ c.in_err-key_type.ensures
+    ∙ key-read _ (sym c.is_empty.ensures ∙ c.if-is_empty.false) _ c.in_ok-check_tag.ensures c.in_ok-value.ensures)
 
 pub overflow_add-used : goal.overflow_add-used
-overflow_add-used c =
-    let s = c.args.input.now in
-    let w = read-within s 1 _ _ (read-rest s 1 _ _ c.read_uvarint-raw.ensures c.in-Value.is) in
-    omega arith
+overflow_add-used c = omega (arith, read-within c.args.input.now 1 _ _ c.in_ok-value.ensures)
 
-pub returns-in-Refused : goal.returns-in-Refused
-returns-in-Refused c =
-    let s = c.args.input.now in
-    key-read _ _ _ c.if-input-eq0.false c.if-b-ne-TYPE_TAG.false
-    (read-rest s 1 _ _ c.read_uvarint-raw.ensures c.in-Refused.is) refl
-
-pub returns-else-value-gt3 : goal.returns-else-value-gt3
-returns-else-value-gt3 c =
-    let s = c.args.input.now in
-    key-read _ _ _ c.if-input-eq0.false c.if-b-ne-TYPE_TAG.false (read-rest s 1 _ _ c.read_uvarint-raw.ensures c.in-Value.is)
-    (c.decode_data.ensures ∙ ap (λ (t : KeyType). on_data s t (1 + c.in-Value.used)) c.type_of-key_type.ensures
-    ∙ simp (le-ltb _ _ c.if-value-gt3.false))
+pub returns : goal.returns
+returns c =
+    c.decode_data.ensures ∙ known-then _ c.in_ok-value.value _ _ c.in_ok-key_type.ensures
+    ∙ key-read _ (sym c.is_empty.ensures ∙ c.if-is_empty.false) _ c.in_ok-check_tag.ensures c.in_ok-value.ensures

@@ -7,11 +7,9 @@ use Rattle.lines.proofs.put_fields.Goals as goal
 
 pub returns-then-count-eq0 : goal.returns-then-count-eq0
 returns-then-count-eq0 c =
-    let a = c.args in
-    puts_as (fields-none a.outer a.middle a.inner _ c.depth-count.ensures c.if-count-eq0.true) (omega arith) (puts_none _ _)
+    puts_as (fields-none c.args.spot _ c.depth-count.ensures c.if-count-eq0.true) (omega arith) (puts_none _ _)
 
 pub returns : goal.returns
 returns c =
-    let a = c.args in
-    puts_as (fields-some a.outer a.middle a.inner _ c.depth-count.ensures c.if-count-eq0.false) (omega arith)
+    puts_as (fields-some c.args.spot _ c.depth-count.ensures c.if-count-eq0.false) (omega arith)
     (puts_then (wrote_puts (omega arith) c.put_word-i.ensures) c.put_values.ensures)

@@ -1,22 +1,17 @@
-use Rattle.std.proofs.Common.{refl, arith, length-set}
-use Rattle.mcache.proofs.Walks.{aging_more, aging_done}
+use Rattle.std.proofs.Common.{◌≡◌, ℕ, ◌+◌, ◌<◌, ◌≤◌, min, length, get_or, arith}
+use Rattle.std.proofs.lemmas.Grind.{common_steps}
+use Rattle.std.proofs.lemmas.List.{get_or_default}
+use Rattle.std.proofs.lemmas.List.Edits.{map_over_more}
+use Rattle.mcache.specs.State.{older}
 use Rattle.mcache.proofs.age_windows.Goals as goal
 
-pub loop-i-init : goal.loop-i-init
-loop-i-init c = (refl, refl)
+one_more : (w : ℕ) → w ≤ 255 → min (w + 1) 255 ≡ older w
+unfolding older
+one_more w h = grind (arith, common_steps)
 
-pub loop-i-smaller : goal.loop-i-smaller
-loop-i-smaller c = omega (arith, c.loop-i.invariant.0)
-
-pub loop-i-preserved : goal.loop-i-preserved
-loop-i-preserved c =
-    let l = c.loop-i in
-    let a = c.args in (
-      simp length-set l.invariant.0,
-      aging_more a.window.now l.window l.i c.older_than.result (omega (arith, l.invariant.0))
-          l.invariant.1 c.older_than.ensures,
-    )
-
-pub returns : goal.returns
-returns c =
-    aging_done c.args.window.now c.loop-i.window c.loop-i.i (omega (arith, c.loop-i.invariant.0)) c.loop-i.invariant.1
+pub loop-age-preserved : goal.loop-age-preserved
+loop-age-preserved c =
+    let l = c.loop-age in
+    let k : l.age-index < length l.window = omega arith in
+    rw (c.saturating_add.ensures, one_more (get_or l.window l.age-index 0) (omega arith))
+    (map_over_more older c.args.window.now l.window l.age-index _ (omega arith) l.invariant (get_or_default l.window l.age-index 0 _ k))

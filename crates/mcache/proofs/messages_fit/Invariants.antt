@@ -1,5 +1,5 @@
 -- `mcache::messages_fit` meets its contract.
-use Rattle.std.proofs.Common.{◌≡◌, ◌-◌, ◌≤◌, drop}
+use Rattle.std.proofs.Common.{◌≡◌, drop}
 use Rattle.rows.specs.Rows.{rows_in}
 use Rattle.mcache.specs.State.{table, gives_at, all_true, gives_in}
 use Rattle.mcache.proofs.messages_fit.Given as goal
@@ -7,7 +7,4 @@ use Rattle.mcache.proofs.messages_fit.Given as goal
 abbrev pub invariant-loop-i : goal.invariant-loop-i
 invariant-loop-i l =
     let t = table l.counts l.starts l.sizes in
-    (l.i ≤ l.ring.count) × (all_true (drop l.i (rows_in (gives_at l.flags l.lens l.id_lens l.ids t l.store) l.ring)) ≡ gives_in l.flags l.ring l.lens l.id_lens l.ids t l.store)
-
-abbrev pub decreases-loop-i : goal.decreases-loop-i
-decreases-loop-i l = l.ring.count - l.i
+    all_true (drop l.i (rows_in (gives_at l.flags l.lens l.id_lens l.ids t l.store) l.ring)) ≡ gives_in l.flags l.ring l.lens l.id_lens l.ids t l.store

@@ -12,11 +12,11 @@ decreases-write_field l = 2 * rank l.kind
 abbrev pub decreases-write_message : goal.decreases-write_message
 decreases-write_message l = 2 * rank l.kind + 1
 
-abbrev pub invariant-write_message-loop-at : goal.invariant-write_message-loop-at
-invariant-write_message-loop-at l = record {
+abbrev pub invariant-write_message-loop-f : goal.invariant-write_message-loop-f
+invariant-write_message-loop-f l = record {
   room : (l.initial.next_row + length (along_at Groups l.kind l.base l.input 0)) * 20 ≤ length l.initial.table;
   left : Left l.initial.table l.initial.next_row (along_at Groups l.kind l.base l.input 0) l.table l.next_row (along_at Groups l.kind l.base l.input l.at);
 }
 
-abbrev pub decreases-write_message-loop-at : goal.decreases-write_message-loop-at
-decreases-write_message-loop-at l = length l.input - l.at
+abbrev pub decreases-write_message-loop-f : goal.decreases-write_message-loop-f
+decreases-write_message-loop-f l = length l.input - l.at

@@ -4,13 +4,13 @@ use Rattle.message.proofs.Turns.{puts_own-none, puts_own}
 use Rattle.basis.specs.declared.Mode.TheVariants.{Groups}
 use Rattle.message.proofs.write_own.Goals as goal
 
-pub returns-then-o-eq0 : goal.returns-then-o-eq0
-returns-then-o-eq0 c =
-    let a = c.args in let h = puts_own-none Groups a.kind a.base a.input.now a.table.now a.row (sym c.own-o.ensures ∙ c.if-o-eq0.true) in record { value = h.0; table_after = h.1 }
+pub returns-then-own-eq0 : goal.returns-then-own-eq0
+returns-then-own-eq0 c =
+    let a = c.args in let h = puts_own-none Groups a.kind a.base a.input.now a.table.now a.row (sym c.own.ensures ∙ c.if-own-eq0.true) in record { value = h.0; table_after = h.1 }
 
 pub returns : goal.returns
 returns c =
     let a = c.args in let h = puts_own Groups a.kind a.base a.input.now a.table.now _ a.row _
-    (λ z. c.if-o-eq0.false (c.own-o.ensures ∙ z))
+    (λ z. c.if-own-eq0.false (c.own.ensures ∙ z))
     c.slots_of-slots.ensures
     c.put_record.ensures in record { value = h.0; table_after = h.1 }

@@ -1,14 +1,7 @@
 -- `cached` meets its contract. The loop's invariant: the messages in `to`, and then those that are cached of the ids in `from` from i on, are all.
-use Prim.Native.Nat.{◌-◌}
-use mathlib.Core.Path.{◌≡◌}
-use lib.ListN.{length}
 use Rattle.rows.specs.Store.{ids_in}
 use Rattle.node.proofs.Serving.{Found}
 use Rattle.node.proofs.cached.Given as goal
 
 abbrev pub invariant-loop-i : goal.invariant-loop-i
-invariant-loop-i l =
-    Found l.lens l.ring (ids_in 128 l.ring l.id_lens l.ids) l.body l.from l.n l.to l.k l.i × (length l.to ≡ length l.initial.to)
-
-abbrev pub decreases-loop-i : goal.decreases-loop-i
-decreases-loop-i l = l.n - l.i
+invariant-loop-i l = Found l.lens l.ring (ids_in 128 l.ring l.id_lens l.ids) l.body l.from l.n l.to l.k l.i

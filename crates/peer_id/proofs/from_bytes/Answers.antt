@@ -7,16 +7,12 @@ use Rattle.peer_id.specs.PeerId.{hash_of}
 use Rattle.peer_id.proofs.Peer.{no-multihash, as_multihash}
 use Rattle.peer_id.proofs.from_bytes.Goals as goal
 
-pub returns-then-multihash-lt-DIGEST_START : goal.returns-then-multihash-lt-DIGEST_START
-returns-then-multihash-lt-DIGEST_START c = no-multihash c.args.multihash.now (λ z. omega (arith, c.if-multihash-lt-DIGEST_START.true))
+pub returns-in_default : goal.returns-in_default
+returns-in_default c = no-multihash c.args.multihash.now (λ z. omega arith)
 
-pub returns-then-size-multihash : goal.returns-then-size-multihash
-returns-then-size-multihash c =
-    no-multihash c.args.multihash.now
-    (λ z. omega (arith, c.wide-size.ensures, c.if-size-multihash.true))
+pub returns-then-size-digest : goal.returns-then-size-digest
+returns-then-size-digest c = no-multihash c.args.multihash.now (λ z. omega (arith, c.from-size.ensures))
 
 pub returns : goal.returns
-returns c =
-    let s = c.args.multihash.now in
-    as_multihash s _ (omega (arith, c.wide-size.ensures, c.if-size-multihash.false, c.if-multihash-lt-DIGEST_START.false))
-    (c.hash_of.ensures ∙ ap (λ (n : ℕ). hash_of (get_or s 0 0) n) c.wide-size.ensures)
+returns c = let s = c.args.multihash.now in as_multihash s _ (omega (arith, c.from-size.ensures))
+    (c.hash_of.ensures ∙ ap (λ (n : ℕ). hash_of (get_or s 0 0) n) c.from-size.ensures)

@@ -12,8 +12,8 @@ decreases-skip_field l = 2 * (length l.input.now - l.idx) + 1
 abbrev pub decreases-skip_group : goal.decreases-skip_group
 decreases-skip_group l = 2 * (length l.input.now - l.idx)
 
-abbrev pub invariant-skip_group-loop-at : goal.invariant-skip_group-loop-at
-invariant-skip_group-loop-at l = (l.idx ≤ l.at) × (skip_group l.levels l.input l.at l.field ≡ skip_group l.levels l.input l.idx l.field)
+abbrev pub invariant-skip_group-loop-number : goal.invariant-skip_group-loop-number
+invariant-skip_group-loop-number l = (l.idx ≤ l.at) × (skip_group l.levels l.input l.at l.field ≡ skip_group l.levels l.input l.idx l.field)
 
-abbrev pub decreases-skip_group-loop-at : goal.decreases-skip_group-loop-at
-decreases-skip_group-loop-at l = length l.input - l.at
+abbrev pub decreases-skip_group-loop-number : goal.decreases-skip_group-loop-number
+decreases-skip_group-loop-number l = length l.input - l.at

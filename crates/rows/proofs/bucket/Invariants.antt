@@ -1,11 +1,8 @@
-use Prim.Native.Nat.{◌≤◌, ◌<◌}
+use Prim.Native.Nat.{◌<◌}
 use mathlib.Core.Path.{◌≡◌}
-use lib.ListN.{length, drop}
+use lib.ListN.{drop}
 use Rattle.rows.specs.Buckets.{buckets, bucket_of}
 use Rattle.rows.proofs.bucket.Given as goal
 
 abbrev pub invariant-loop-i : goal.invariant-loop-i
-invariant-loop-i l = (l.i ≤ length l.id) × ((l.x < buckets) × (l.x ≡ bucket_of (drop l.i l.id)))
-
-abbrev pub decreases-loop-i : goal.decreases-loop-i
-decreases-loop-i l = l.i
+invariant-loop-i l = (l.x < buckets) × (l.x ≡ bucket_of (drop l.i l.id))

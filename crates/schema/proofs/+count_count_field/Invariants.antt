@@ -12,12 +12,12 @@ decreases-count l = 2 * rank l.kind + 1
 abbrev pub decreases-count_field : goal.decreases-count_field
 decreases-count_field l = 2 * rank l.kind
 
-abbrev pub invariant-count-loop-at : goal.invariant-count-loop-at
-invariant-count-loop-at l = record {
+abbrev pub invariant-count-loop-f : goal.invariant-count-loop-f
+invariant-count-loop-f l = record {
   inside : l.at ≤ length l.input;
   few : l.n ≤ l.at;
   rest : counted l.mode l.kind l.input ≡ plus l.n (count_along (counted l.mode) l.kind l.input (walk_at l.mode l.input l.at));
 }
 
-abbrev pub decreases-count-loop-at : goal.decreases-count-loop-at
-decreases-count-loop-at l = length l.input - l.at
+abbrev pub decreases-count-loop-f : goal.decreases-count-loop-f
+decreases-count-loop-f l = length l.input - l.at

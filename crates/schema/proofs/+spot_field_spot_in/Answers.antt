@@ -1,20 +1,19 @@
 -- The cycle {spot_field, spot_in} meets its contracts.
-use Prim.Native.Nat.{ℕ, ◌+◌, ◌-◌, ◌*◌, ◌≤◌, ◌<◌}
-use mathlib.Core.Path.{◌≡◌, sym, ap, subst, ◌∙◌}
-use native.Mathlib.Omega.{arith}
-use lib.ListN.{length, drop, length-take}
+use Prim.Native.Nat.{◌-◌}
+use Rattle.std.specs.Prelude.{Ok}
+use Rattle.std.proofs.Common.{sym, ap, subst, ◌∙◌, arith, rules, length, drop, length-take}
 use Rattle.basis.specs.Spot.{inside, Within}
 use Rattle.protobuf.specs.Laws.{field-stands}
 use Rattle.protobuf.specs.Walk.{between}
 use Rattle.schema.specs.Spots.{field_spot}
 use Rattle.schema.specs.SchemaLaws.{sub-rank}
 use Rattle.schema.specs.SpotsLaws.{spot_along_lem, spot-within, within_reaches}
-use Rattle.schema.proofs.Turns.{spot-done, spot-end, spot-refused, spot-found, spot-turn}
+use Rattle.schema.proofs.Turns.{spot-end, spot-refused, spot-found, spot-turn}
 use Rattle.schema.proofs.+spot_field_spot_in.Goals as goal
 
 pub spot_field-spot_in-spot-requires : goal.spot_field-spot_in-spot-requires
 spot_field-spot_in-spot-requires t c =
-    let r = sub-rank c.args.kind _ _ _ _ (sym c.role_of-role.ensures ∙ c.in-Sub.is) in
+    let r = sub-rank c.args.kind _ _ _ _ (sym c.role_of.ensures ∙ c.in-Sub.is) in
     (omega (arith, c.decreases), tt)
 
 pub spot_field-enclose-requires : goal.spot_field-enclose-requires
@@ -26,87 +25,67 @@ spot_field-enclose-requires t c =
     within_reaches (length p) a.f.start c.spot_in-spot.result (subst (Within (length p)) (sym c.spot_in-spot.ensures) w)
     (omega (arith, length-take (a.f.next - a.f.start) (drop a.f.start s)))
 
-pub spot_field-returns-in-Skip : goal.spot_field-returns-in-Skip
-unfolding field_spot
-spot_field-returns-in-Skip t c = simp (sym c.role_of-role.ensures ∙ c.in-Skip.is)
-
-pub spot_field-returns-in-Number : goal.spot_field-returns-in-Number
-unfolding field_spot
-spot_field-returns-in-Number t c = simp (sym c.role_of-role.ensures ∙ c.in-Number.is)
-
 pub spot_field-returns-in-Text : goal.spot_field-returns-in-Text
 unfolding field_spot
-spot_field-returns-in-Text t c = simp (sym c.role_of-role.ensures ∙ c.in-Text.is) c.spot_text.ensures
-
-pub spot_field-returns-in-Bytes : goal.spot_field-returns-in-Bytes
-unfolding field_spot
-spot_field-returns-in-Bytes t c = simp (sym c.role_of-role.ensures ∙ c.in-Bytes.is)
-
-pub spot_field-returns-in-Topic : goal.spot_field-returns-in-Topic
-unfolding field_spot
-spot_field-returns-in-Topic t c = simp (sym c.role_of-role.ensures ∙ c.in-Topic.is) c.spot_text-in-Topic.ensures
-
-pub spot_field-returns-in-MessageId : goal.spot_field-returns-in-MessageId
-unfolding field_spot
-spot_field-returns-in-MessageId t c = simp (sym c.role_of-role.ensures ∙ c.in-MessageId.is)
+spot_field-returns-in-Text t c = search rules
 
 pub spot_field-returns-in-Sub : goal.spot_field-returns-in-Sub
 unfolding field_spot
 spot_field-returns-in-Sub t c =
-    simp (sym c.role_of-role.ensures ∙ c.in-Sub.is) (c.enclose.ensures ∙ ap (inside _ _) c.spot_in-spot.ensures)
+    simp (sym c.role_of.ensures ∙ c.in-Sub.is) (c.enclose.ensures ∙ ap (inside _ _) c.spot_in-spot.ensures)
 
-pub spot_field-returns-in-Unsigned : goal.spot_field-returns-in-Unsigned
+pub spot_field-returns-in_default : goal.spot_field-returns-in_default
 unfolding field_spot
-spot_field-returns-in-Unsigned t c = simp (sym c.role_of-role.ensures ∙ c.in-Unsigned.is)
+spot_field-returns-in_default t c = search rules
 
-pub spot_in-loop-at-init : goal.spot_in-loop-at-init
-spot_in-loop-at-init t c = let a = c.args in record { inside = omega arith; rest = spot_along_lem a.mode a.kind a.input.now }
-
-pub spot_in-returns-in-End : goal.spot_in-returns-in-End
-spot_in-returns-in-End t c =
+pub spot_in-loop-why-init : goal.spot_in-loop-why-init
+spot_in-loop-why-init t c =
     let a = c.args in
-    let l = c.loop-at in
-    sym (l.invariant.rest ∙ spot-end a.mode a.kind a.input.now l.at (sym c.in-End.is ∙ c.read_field-step.ensures))
+    record { inside = omega arith; rest = spot_along_lem a.mode a.kind a.input.now }
 
-pub spot_in-returns-in-Refused : goal.spot_in-returns-in-Refused
-spot_in-returns-in-Refused t c =
+pub spot_in-returns-in-Err : goal.spot_in-returns-in-Err
+spot_in-returns-in-Err t c =
     let a = c.args in
-    let l = c.loop-at in
-    let e = sym c.in-Refused.is ∙ c.read_field-step.ensures in
-    c.spot_of.ensures ∙ sym (l.invariant.rest ∙ spot-refused a.mode a.kind a.input.now l.at _ e)
+    let l = c.loop-why in
+    c.spot_of.ensures ∙ sym (l.invariant.rest ∙ spot-refused a.mode a.kind a.input.now l.at _ c.in-Err.ensures)
+
+pub spot_in-returns-in-Ok-None : goal.spot_in-returns-in-Ok-None
+spot_in-returns-in-Ok-None t c =
+    let a = c.args in
+    let l = c.loop-why in
+    let e = ap Ok (sym c.in-Ok-None.field-0-is) ∙ c.in-Ok-None.ensures in
+    sym (l.invariant.rest ∙ spot-end a.mode a.kind a.input.now l.at e)
 
 pub spot_in-spot_field-spot-requires : goal.spot_in-spot_field-spot-requires
 spot_in-spot_field-spot-requires t c =
     let a = c.args in
-    let m = field-stands a.mode a.input.now c.loop-at.at _ (sym c.in-At.is ∙ c.read_field-step.ensures) in
+    let e = ap Ok (sym c.in-Ok-Some.field-0-is) ∙ c.in-Ok-Some.ensures in
+    let m = field-stands a.mode a.input.now c.loop-why.at _ e in
     (omega (arith, c.decreases), record { order = m.ends; fits = m.within })
 
-pub spot_in-returns-in-At-spot : goal.spot_in-returns-in-At-spot
-spot_in-returns-in-At-spot t c =
+pub spot_in-returns-then-is_some : goal.spot_in-returns-then-is_some
+spot_in-returns-then-is_some t c =
     let a = c.args in
-    let l = c.loop-at in
-    let e = sym c.in-At.is ∙ c.read_field-step.ensures in
-    sym (l.invariant.rest ∙ spot-found a.mode a.kind a.input.now l.at _ _ _ _ _ _ e c.spot_field-spot.ensures c.in-At-spot.is)
+    let l = c.loop-why in
+    let e = ap Ok (sym c.in-Ok-Some.field-0-is) ∙ c.in-Ok-Some.ensures in
+    sym (l.invariant.rest ∙ spot-found a.mode a.kind a.input.now l.at _ _ e c.spot_field-spot.ensures
+    (sym c.is_some.ensures ∙ c.if-is_some.true))
 
-pub spot_in-loop-at-smaller : goal.spot_in-loop-at-smaller
-spot_in-loop-at-smaller t c =
+pub spot_in-loop-why-smaller : goal.spot_in-loop-why-smaller
+spot_in-loop-why-smaller t c =
     let a = c.args in
-    let m = field-stands a.mode a.input.now c.loop-at.at _ (sym c.in-At.is ∙ c.read_field-step.ensures) in
+    let e = ap Ok (sym c.in-Ok-Some.field-0-is) ∙ c.in-Ok-Some.ensures in
+    let m = field-stands a.mode a.input.now c.loop-why.at _ e in
     omega arith
 
-pub spot_in-loop-at-preserved : goal.spot_in-loop-at-preserved
-spot_in-loop-at-preserved t c =
+pub spot_in-loop-why-preserved : goal.spot_in-loop-why-preserved
+spot_in-loop-why-preserved t c =
     let a = c.args in
-    let l = c.loop-at in
-    let e = sym c.in-At.is ∙ c.read_field-step.ensures in
+    let l = c.loop-why in
+    let e = ap Ok (sym c.in-Ok-Some.field-0-is) ∙ c.in-Ok-Some.ensures in
     let m = field-stands a.mode a.input.now l.at _ e in
     record {
       inside = m.within;
-      rest = l.invariant.rest ∙ spot-turn a.mode a.kind a.input.now l.at _ _ e c.spot_field-spot.ensures c.in-Nowhere.is;
+      rest = l.invariant.rest ∙ spot-turn a.mode a.kind a.input.now l.at _ _ e c.spot_field-spot.ensures
+          (sym c.is_some.ensures ∙ c.if-is_some.false);
     }
-
-pub spot_in-returns : goal.spot_in-returns
-spot_in-returns t c =
-    let a = c.args in
-    let l = c.loop-at in
-    sym (l.invariant.rest ∙ spot-done a.mode a.kind a.input.now l.at c.loop-at-test.false)

@@ -12,11 +12,11 @@ decreases-spot_field l = 2 * rank l.kind
 abbrev pub decreases-spot_in : goal.decreases-spot_in
 decreases-spot_in l = 2 * rank l.kind + 1
 
-abbrev pub invariant-spot_in-loop-at : goal.invariant-spot_in-loop-at
-invariant-spot_in-loop-at l = record {
+abbrev pub invariant-spot_in-loop-why : goal.invariant-spot_in-loop-why
+invariant-spot_in-loop-why l = record {
   inside : l.at ≤ length l.input;
   rest : spot_in l.mode l.kind l.input ≡ spot_along (spot_in l.mode) l.kind l.input (walk_at l.mode l.input l.at);
 }
 
-abbrev pub decreases-spot_in-loop-at : goal.decreases-spot_in-loop-at
-decreases-spot_in-loop-at l = length l.input - l.at
+abbrev pub decreases-spot_in-loop-why : goal.decreases-spot_in-loop-why
+decreases-spot_in-loop-why l = length l.input - l.at

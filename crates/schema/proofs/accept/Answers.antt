@@ -1,12 +1,12 @@
 -- `schema::accept` meets its contract: the number of records, or the refusal, picks the case.
-use mathlib.Core.Path.{sym, ◌∙◌}
+use Rattle.std.proofs.Common.{rules}
 use Rattle.schema.specs.Accept.{accept_of}
 use Rattle.schema.proofs.accept.Goals as goal
 
-pub returns-in-Refused : goal.returns-in-Refused
+pub returns-in_err-body_records : goal.returns-in_err-body_records
 unfolding accept_of
-returns-in-Refused c = simp (sym c.body_records-c.ensures ∙ c.in-Refused.is)
+returns-in_err-body_records c = search rules
 
-pub returns-in-Records : goal.returns-in-Records
+pub returns : goal.returns
 unfolding accept_of
-returns-in-Records c = simp (sym c.body_records-c.ensures ∙ c.in-Records.is)
+returns c = search rules

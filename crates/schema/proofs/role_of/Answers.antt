@@ -1,29 +1,24 @@
 -- `schema::role_of` meets its contract: the wire type, and whether the row is a number's, pick the role.
-use mathlib.Core.Path.{sym}
-use borrow.Author.Tests.{eq-eqb, ne_eqb}
+use Rattle.std.proofs.Common.{rules}
 use Rattle.schema.specs.Schema.{role_of}
 use Rattle.schema.proofs.role_of.Goals as goal
 
-pub returns-then-is_varint : goal.returns-then-is_varint
+pub returns-in-Number : goal.returns-in-Number
 unfolding role_of
-returns-then-is_varint c =
-    simp (eq-eqb _ _ c.if-wire_type-eq-WIRE_LEN.true, sym c.row_of-role.ensures, sym c.is_varint.ensures, c.if-is_varint.true)
+returns-in-Number c = search rules
 
-pub returns-then-wire_type-eq-WIRE_LEN : goal.returns-then-wire_type-eq-WIRE_LEN
+pub returns-in_default-row_of : goal.returns-in_default-row_of
 unfolding role_of
-returns-then-wire_type-eq-WIRE_LEN c =
-    simp (eq-eqb _ _ c.if-wire_type-eq-WIRE_LEN.true, sym c.row_of-role.ensures, sym c.is_varint.ensures, c.if-is_varint.false)
+returns-in_default-row_of c = search rules
 
-pub returns-then-is_varint-2 : goal.returns-then-is_varint-2
+pub returns-in-Number-row_of : goal.returns-in-Number-row_of
 unfolding role_of
-returns-then-is_varint-2 c =
-    simp (ne_eqb _ _ c.if-wire_type-eq-WIRE_LEN.false, eq-eqb _ _ c.if-wire_type-eq-WIRE_VARINT.true, sym c.row_of-role-then-wire_type-eq-WIRE_VARINT.ensures, sym c.is_varint-then-wire_type-eq-WIRE_VARINT.ensures, c.if-is_varint-2.true)
+returns-in-Number-row_of c = search rules
 
-pub returns-else-is_varint-2 : goal.returns-else-is_varint-2
+pub returns-in_default-row_of-2 : goal.returns-in_default-row_of-2
 unfolding role_of
-returns-else-is_varint-2 c =
-    simp (ne_eqb _ _ c.if-wire_type-eq-WIRE_LEN.false, eq-eqb _ _ c.if-wire_type-eq-WIRE_VARINT.true, sym c.row_of-role-then-wire_type-eq-WIRE_VARINT.ensures, sym c.is_varint-then-wire_type-eq-WIRE_VARINT.ensures, c.if-is_varint-2.false)
+returns-in_default-row_of-2 c = search rules
 
-pub returns-else-wire_type-eq-WIRE_VARINT : goal.returns-else-wire_type-eq-WIRE_VARINT
+pub returns-in_default : goal.returns-in_default
 unfolding role_of
-returns-else-wire_type-eq-WIRE_VARINT c = simp (ne_eqb _ _ c.if-wire_type-eq-WIRE_LEN.false, ne_eqb _ _ c.if-wire_type-eq-WIRE_VARINT.false)
+returns-in_default c = search rules

@@ -1,5 +1,5 @@
 -- `seen::expired` meets its contract: those that were passed have expired, and as many of the rest as the rest says.
-use Prim.Native.Nat.{◌+◌, ◌-◌}
+use Prim.Native.Nat.{◌+◌}
 use mathlib.Core.Path.{◌≡◌}
 use lib.ListN.{drop}
 use Rattle.rows.specs.Store.{in_use}
@@ -8,6 +8,3 @@ use Rattle.seen.proofs.expired.Given as goal
 
 abbrev pub invariant-loop-i : goal.invariant-loop-i
 invariant-loop-i l = spent l.at (in_use l.ring l.expiry) ≡ l.i + spent l.at (drop l.i (in_use l.ring l.expiry))
-
-abbrev pub decreases-loop-i : goal.decreases-loop-i
-decreases-loop-i l = l.ring.count - l.i

@@ -7,16 +7,16 @@ use Rattle.stored.proofs.read_words.Goals as goal
 
 pub loop-i-init : goal.loop-i-init
 unfolding gathered
-loop-i-init c = (search rules, (refl, refl))
+loop-i-init c = refl
 
 pub loop-i-preserved : goal.loop-i-preserved
 loop-i-preserved c =
     let a = c.args in
     let l = c.loop-i in
-    (search rules, (search rules, gathered-turn 8 a.s.now l.out a.at l.i _ (search rules) l.invariant.1.1 c.read_word.ensures))
+    gathered-turn 8 a.s.now l.out a.at l.i _ (search rules) l.invariant c.read_word.ensures
 
 pub returns : goal.returns
 returns c =
     let a = c.args in
     let l = c.loop-i in
-    gathered-done 8 a.s.now l.out a.at l.i _ (search rules) (search rules) (search rules) l.invariant.1.1
+    gathered-done 8 a.s.now l.out a.at l.i _ (search rules) (search rules) (search rules) l.invariant

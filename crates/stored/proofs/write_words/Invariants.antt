@@ -1,14 +1,11 @@
 -- `stored::write_words` meets its contract. The invariant: to write the numbers that are left is to write them all.
-use Prim.Native.Nat.{◌+◌, ◌-◌, ◌*◌, ◌≤◌}
+use Prim.Native.Nat.{◌+◌, ◌*◌}
 use mathlib.Core.Path.{◌≡◌}
-use lib.ListN.{length, drop}
+use lib.ListN.{drop}
 use lib.Seq.{sets}
 use Rattle.stored.specs.Layout.{spread}
 use Rattle.stored.proofs.write_words.Given as goal
 
 abbrev pub invariant-loop-i : goal.invariant-loop-i
 invariant-loop-i l =
-    (l.i ≤ length l.values) × ((length l.out ≡ length l.initial.out) × (sets l.out (l.at + l.i * 8) (spread 8 (drop l.i l.values)) ≡ sets l.initial.out l.at (spread 8 l.values)))
-
-abbrev pub decreases-loop-i : goal.decreases-loop-i
-decreases-loop-i l = length l.values - l.i
+    sets l.out (l.at + l.i * 8) (spread 8 (drop l.i l.values)) ≡ sets l.initial.out l.at (spread 8 l.values)

@@ -13,13 +13,14 @@ pub returns-then-count-gt640 : goal.returns-then-count-gt640
 returns-then-count-gt640 c =
     lists-bad _ _ (lists-many _ _ _ c.if-s-lt6.false c.little_at-room.ensures c.if-room-gt65600.false c.little_at-count.ensures c.if-count-gt640.true)
 
-pub returns-in-Bad : goal.returns-in-Bad
-returns-in-Bad c =
-    lists-bad _ _
+pub returns-in_err-start : goal.returns-in_err-start
+returns-in_err-start c =
+    rw c.from_residual.ensures
+    (lists-bad _ _
     (lists-cut _ _ _ c.if-s-lt6.false c.little_at-room.ensures c.if-room-gt65600.false
-    c.little_at-count.ensures c.if-count-gt640.false (sym c.in-Bad.is ∙ c.put_rows-ends.ensures.answer))
+    c.little_at-count.ensures c.if-count-gt640.false (sym c.in_err-start.was ∙ c.put_rows.ensures.answer)))
 
-pub returns-in-At : goal.returns-in-At
-returns-in-At c =
+pub returns : goal.returns
+returns c =
     lists-there _ _ _ _ _ c.if-s-lt6.false c.little_at-room.ensures c.if-room-gt65600.false
-    c.little_at-count.ensures c.if-count-gt640.false (rw c.in-At.is at c.put_rows-ends.ensures)
+    c.little_at-count.ensures c.if-count-gt640.false (rw c.in_ok-start.was at c.put_rows.ensures)

@@ -5,12 +5,12 @@ use Rattle.lines.specs.Laws.{wrote_puts}
 use Rattle.inspect.proofs.Answering.{key-there, key-refused}
 use Rattle.inspect.proofs.senders.put_key.Goals as goal
 
-pub returns-in-Key : goal.returns-in-Key
-returns-in-Key c =
-    puts_as (key-there _ _ _ _ _ c.in-Key.is c.code_of.ensures) (omega arith)
+pub returns-in-Ok : goal.returns-in-Ok
+returns-in-Ok c =
+    puts_as (key-there _ _ _ _ c.in-Ok.is c.code_of.ensures) (omega arith)
     (puts_then (wrote_puts (omega arith) c.put_value-i.ensures) c.put_rest.ensures)
 
-pub returns-in-Refused : goal.returns-in-Refused
-returns-in-Refused c =
-    puts_as (key-refused _ _ _ _ c.in-Refused.is c.told_key.ensures) (omega arith)
+pub returns-in-Err : goal.returns-in-Err
+returns-in-Err c =
+    puts_as (key-refused _ _ _ _ c.in-Err.is c.told_key.ensures) (omega arith)
     (wrote_puts (omega arith) c.put_refusal.ensures)

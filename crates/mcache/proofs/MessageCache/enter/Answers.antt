@@ -8,9 +8,9 @@ returns-then-max-eq0 c =
 pub append-requires : goal.append-requires
 append-requires c =
     let a = c.args in
-    let r = enter-room a.self a.store.now a.part.now a.id.now c.minus-k.result c.without-rest.result c.if-max-eq0.false c.minus-k.ensures
+    let r = enter-room a.self a.store.now a.part.now a.id.now c.saturating_sub-k.result c.without-rest.result c.if-max-eq0.false c.saturating_sub-k.ensures
     c.without-rest.ensures c.requires.placed in
-    let f = enter-found a.self a.store.now a.part.now a.id.now c.minus-k.result c.without-rest.result c.if-max-eq0.false c.minus-k.ensures
+    let f = enter-found a.self a.store.now a.part.now a.id.now c.saturating_sub-k.result c.without-rest.result c.if-max-eq0.false c.saturating_sub-k.ensures
     c.without-rest.ensures _ _ _ c.requires.found in record {
       placed = r.0;
       count_bound = r.1;
@@ -20,6 +20,6 @@ append-requires c =
 
 pub returns : goal.returns
 returns c =
-    let h = entered-some c.args.self c.args.store.now c.args.part.now c.args.id.now c.minus-k.result
-    c.without-rest.result c.if-max-eq0.false c.minus-k.ensures c.without-rest.ensures _ _
+    let h = entered-some c.args.self c.args.store.now c.args.part.now c.args.id.now c.saturating_sub-k.result
+    c.without-rest.result c.if-max-eq0.false c.saturating_sub-k.ensures c.without-rest.ensures _ _
     c.append.ensures.value c.append.ensures.store_after in record { value = h.0; store_after = h.1 }

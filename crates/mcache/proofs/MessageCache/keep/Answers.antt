@@ -69,5 +69,6 @@ returns-then-can_keep c =
 
 pub returns : goal.returns
 returns c =
-    let a = c.args in kept-not a.self a.store.now a.part.now a.id.now (rw
-    c.ring-ring.ensures at (sym c.can_keep.ensures ∙ c.if-can_keep.false))
+    let a = c.args in
+    kept-not a.self a.store.now a.part.now a.id.now _ c.not_put.ensures
+    (rw c.ring-ring.ensures at (sym c.can_keep.ensures ∙ c.if-can_keep.false))

@@ -1,25 +1,14 @@
-use Rattle.std.proofs.Common.{sym, ◌∙◌}
-use Rattle.mcache.proofs.Answers.{lookup_store, lookup_malformed, lookup_found, lookup_missing}
+-- `MessageCache::lookup` meets its contract.
+use Rattle.std.specs.Prelude.{Err}
+use Rattle.std.proofs.Common.{ap, ◌∙◌}
+use Rattle.std.proofs.lemmas.Result.{err_from_is_err_and}
+use Rattle.mcache.proofs.Answers.{lookup_fault, lookup_found}
 use Rattle.mcache.proofs.MessageCache.lookup.Goals as goal
 
-pub returns-then-find-self : goal.returns-then-find-self
-returns-then-find-self c =
-    lookup_found c.args.self
-    c.args.store.now
-    c.args.id.now (sym c.in-Fine.is
-    ∙ c.lent-lent.ensures) c.find.result c.find.ensures c.if-find-self.true
+pub returns-in_err-lent : goal.returns-in_err-lent
+returns-in_err-lent c =
+    let p = err_from_is_err_and c.from_residual.result c.from_residual.ensures.1 in
+    p.1 ∙ ap Err p.2 ∙ lookup_fault c.args.self c.args.store.now c.args.id.now _ c.in_err-lent.ensures
 
-pub returns-in-BadStore : goal.returns-in-BadStore
-returns-in-BadStore c =
-    lookup_store c.args.self c.args.store.now c.args.id.now (sym c.in-BadStore.is ∙ c.lent-lent.ensures)
-
-pub returns-in-Malformed : goal.returns-in-Malformed
-returns-in-Malformed c =
-    lookup_malformed c.args.self c.args.store.now c.args.id.now (sym c.in-Malformed.is ∙ c.lent-lent.ensures)
-
-pub returns-else-find-self : goal.returns-else-find-self
-returns-else-find-self c =
-    lookup_missing c.args.self
-    c.args.store.now
-    c.args.id.now (sym c.in-Fine.is
-    ∙ c.lent-lent.ensures) c.find.result c.find.ensures c.if-find-self.false
+pub returns : goal.returns
+returns c = lookup_found c.args.self c.args.store.now c.args.id.now c.in_ok-lent.ensures c.find.result c.find.ensures

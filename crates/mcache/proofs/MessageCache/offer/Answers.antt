@@ -29,7 +29,7 @@ returns-then-row-ring c =
     let h = c.if-row-ring.true in
     let p = c.place-p in
     let t = c.has_topic-carried in
-    let w = c.byte_at-age in
+    let w = c.at_or-age in
     offer_found a.self a.store.now a.id.now a.topic.now a.windows (rw ring.ensures at l) row.result row.ensures
     (omega (arith, h, ap (λ (r : Ring). r.count) ring.ensures)) p.result (rw ring.ensures at p.ensures) t.result t.ensures _
     (c.offer_for.ensures ∙ ap (λ (k : ℕ). offer_for t.result k a.windows) w.ensures)

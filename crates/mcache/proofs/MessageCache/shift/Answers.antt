@@ -1,13 +1,13 @@
+-- `MessageCache::shift` meets its contract.
 use Rattle.std.proofs.Common.{sym, ◌∙◌}
-use Rattle.mcache.proofs.Answers.{shift-store, shift-malformed, shift-fine}
+use Rattle.mcache.proofs.Answers.{shift-fault, shift-fine}
 use Rattle.mcache.proofs.MessageCache.shift.Goals as goal
 
-pub returns-in-BadStore : goal.returns-in-BadStore
-returns-in-BadStore c = shift-store c.args.self c.args.store.now (sym c.in-BadStore.is ∙ c.lent-lent.ensures)
+pub returns-then-is_ok : goal.returns-then-is_ok
+returns-then-is_ok c =
+    shift-fine c.args.self c.args.store.now _ c.lent-answer.ensures (sym c.is_ok.ensures.value ∙ c.if-is_ok.true) _
+    c.next_window-cache.ensures
 
-pub returns-in-Malformed : goal.returns-in-Malformed
-returns-in-Malformed c = shift-malformed c.args.self c.args.store.now (sym c.in-Malformed.is ∙ c.lent-lent.ensures)
-
-pub returns-in-Fine : goal.returns-in-Fine
-returns-in-Fine c =
-    shift-fine c.args.self c.args.store.now (sym c.in-Fine.is ∙ c.lent-lent.ensures) _ c.next_window-cache.ensures
+pub returns-else-is_ok : goal.returns-else-is_ok
+returns-else-is_ok c =
+    shift-fault c.args.self c.args.store.now _ c.lent-answer.ensures (sym c.is_ok.ensures.value ∙ c.if-is_ok.false)

@@ -1,21 +1,17 @@
--- `node::Node::heartbeat` meets its contract: the node is tested, and then cleaned and shifted at a later reading.
+-- `node::Node::heartbeat` meets its contract: where it is not refused the node is cleaned and shifted at a later reading.
 use mathlib.Core.Path.{sym, ◌∙◌}
-use Rattle.node.proofs.Answers.{beat-faulty, beat-back, beat-done}
+use Rattle.node.proofs.Answers.{beat-stays, beat-done}
 use Rattle.node.proofs.Node.heartbeat.Goals as goal
 
-pub returns-then-at-self : goal.returns-then-at-self
-returns-then-at-self c =
-    let a = c.args in beat-back a.self a.seen_store.now a.cache_store.now a.at (sym c.in-Fine.is ∙ c.lent-lent.ensures) c.if-at-self.true
-
-pub returns-in-Faulty : goal.returns-in-Faulty
-returns-in-Faulty c =
-    let a = c.args in beat-faulty a.self a.seen_store.now a.cache_store.now a.at _ (sym c.in-Faulty.is ∙ c.lent-lent.ensures)
-
-pub returns-else-at-self : goal.returns-else-at-self
-returns-else-at-self c =
+pub returns-then-is_err : goal.returns-then-is_err
+returns-then-is_err c =
     let a = c.args in
-    beat-done a.self a.seen_store.now a.cache_store.now a.at
-    (sym c.in-Fine.is
-    ∙ c.lent-lent.ensures) c.if-at-self.false
-    c.clean-seen.result c.clean-seen.ensures c.next_window-cache.result c.next_window-cache.ensures _
+    beat-stays a.self a.seen_store.now a.cache_store.now a.at _ c.beat_answer-answer.ensures
+    (sym c.is_err.ensures.value ∙ c.if-is_err.true)
+
+pub returns : goal.returns
+returns c =
+    let a = c.args in
+    beat-done a.self a.seen_store.now a.cache_store.now a.at _ c.beat_answer-answer.ensures
+    (sym c.is_err.ensures.value ∙ c.if-is_err.false) _ c.clean-seen.ensures _ c.next_window-cache.ensures _
     c.later.ensures

@@ -1,6 +1,7 @@
 -- `node::Node::lent` meets its contract: the settings, the stores' lengths, the message cache and then the ids seen.
 use mathlib.Core.Path.{sym, ◌∙◌}
-use Rattle.node.proofs.Answers.{lent_setting, lent-more, lent-part, lent-room, lent-store, lent-malformed, lent-unfit, lent-fine}
+use Rattle.std.proofs.lemmas.Result.{err_from_is_err_and}
+use Rattle.node.proofs.Answers.{lent_setting, lent-more, lent-part, lent-room, lent-refused, lent-unfit, lent-fine}
 use Rattle.node.proofs.Node.lent.Goals as goal
 
 pub returns-then-cap-max_seen : goal.returns-then-cap-max_seen
@@ -20,30 +21,21 @@ seen_fits-requires c =
     lent-room a.self a.seen_store.now a.cache_store.now c.if-cap-max_seen.false
     c.if-max_seen-cap.false c.if-seen_store-ne0.false
 
+pub returns-in_err-lent : goal.returns-in_err-lent
+returns-in_err-lent c =
+    let a = c.args in
+    let p = err_from_is_err_and c.from_residual.result c.from_residual.ensures.1 in
+    rw (p.1, p.2) (lent-refused a.self a.seen_store.now a.cache_store.now c.if-cap-max_seen.false
+    c.if-max_seen-cap.false c.if-seen_store-ne0.false _ c.in_err-lent.ensures)
+
 pub returns-then-seen_fits : goal.returns-then-seen_fits
 returns-then-seen_fits c =
     let a = c.args in
     lent-fine a.self a.seen_store.now a.cache_store.now c.if-cap-max_seen.false
-    c.if-max_seen-cap.false c.if-seen_store-ne0.false
-    (sym c.in-Fine.is ∙ c.lent-lent.ensures) (sym c.seen_fits.ensures ∙ c.if-seen_fits.true)
+    c.if-max_seen-cap.false c.if-seen_store-ne0.false c.in_ok-lent.ensures (sym c.seen_fits.ensures ∙ c.if-seen_fits.true)
 
-pub returns-in-BadStore : goal.returns-in-BadStore
-returns-in-BadStore c =
-    let a = c.args in
-    lent-store a.self a.seen_store.now a.cache_store.now c.if-cap-max_seen.false
-    c.if-max_seen-cap.false c.if-seen_store-ne0.false (sym c.in-BadStore.is
-    ∙ c.lent-lent.ensures)
-
-pub returns-in-Malformed : goal.returns-in-Malformed
-returns-in-Malformed c =
-    let a = c.args in
-    lent-malformed a.self a.seen_store.now a.cache_store.now c.if-cap-max_seen.false
-    c.if-max_seen-cap.false c.if-seen_store-ne0.false (sym c.in-Malformed.is
-    ∙ c.lent-lent.ensures)
-
-pub returns-else-seen_fits : goal.returns-else-seen_fits
-returns-else-seen_fits c =
+pub returns : goal.returns
+returns c =
     let a = c.args in
     lent-unfit a.self a.seen_store.now a.cache_store.now c.if-cap-max_seen.false
-    c.if-max_seen-cap.false c.if-seen_store-ne0.false
-    (sym c.in-Fine.is ∙ c.lent-lent.ensures) (sym c.seen_fits.ensures ∙ c.if-seen_fits.false)
+    c.if-max_seen-cap.false c.if-seen_store-ne0.false c.in_ok-lent.ensures (sym c.seen_fits.ensures ∙ c.if-seen_fits.false)

@@ -7,5 +7,5 @@ pub returns : goal.returns
 returns c =
     record {
       answer_value = refl;
-      node_value = fresh-is 0 0 1 0 0 _ _ c.new.ensures (c.new-c.ensures.cache ∙ default_cache);
+      node_value = fresh-is 0 0 1 0 0 _ _ c.new.ensures (c.new-begun.ensures.cache ∙ default_cache);
     }

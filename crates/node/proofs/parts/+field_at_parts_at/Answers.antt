@@ -1,4 +1,6 @@
 use Rattle.std.proofs.Common.{◌≡◌, List, ◌++◌, ◌≤◌, ℕ, length, sym, ap, ◌∙◌, arith}
+use borrow.Author.Rules.{rules}
+use Rattle.std.specs.Prelude.{Ok, Some, None}
 use Rattle.protobuf.specs.Laws.{field-stands}
 use Rattle.protobuf.specs.Walk.{between}
 use Rattle.protobuf.specs.WalkLaws.{between-length}
@@ -47,30 +49,31 @@ parts_at-loop-at-init t c =
     let a = c.args in
     walked_all a.mode a.body.now a.start a.end a.path.now a.table.now a.n c.requires.parts c.if-path-eq0.false
 
-pub parts_at-returns-in-End-clause-result_after : goal.parts_at-returns-in-End-clause-result_after
-parts_at-returns-in-End-clause-result_after t c =
+pub parts_at-returns-in-Ok-None-clause-result_after : goal.parts_at-returns-in-Ok-None-clause-result_after
+parts_at-returns-in-Ok-None-clause-result_after t c =
     let a = c.args in
     let l = c.loop-at in
-    (walked-done a.mode _ _ _ _ _ _ _ _ _ l.invariant (path-end a.mode a.path.now (between a.body.now a.start a.end) l.at c.in-End.ensures)).0
+    (walked-done a.mode _ _ _ _ _ _ _ _ _ l.invariant (path-end a.mode a.path.now (between a.body.now a.start a.end) l.at (let e : c.read_field-step.result ≡ Ok None = search rules in sym e ∙ c.read_field-step.ensures))).0
 
-pub parts_at-returns-in-End-clause-parts_2 : goal.parts_at-returns-in-End-clause-parts_2
-parts_at-returns-in-End-clause-parts_2 t c = c.loop-at.invariant.parts
+pub parts_at-returns-in-Ok-None-clause-parts_2 : goal.parts_at-returns-in-Ok-None-clause-parts_2
+parts_at-returns-in-Ok-None-clause-parts_2 t c = c.loop-at.invariant.parts
 
-pub parts_at-returns-in-Refused-clause-result_after : goal.parts_at-returns-in-Refused-clause-result_after
-parts_at-returns-in-Refused-clause-result_after t c =
+pub parts_at-returns-in-Err-clause-result_after : goal.parts_at-returns-in-Err-clause-result_after
+parts_at-returns-in-Err-clause-result_after t c =
     let a = c.args in
     let l = c.loop-at in
-    (walked-done a.mode _ _ _ _ _ _ _ _ _ l.invariant (path-refused a.mode a.path.now (between a.body.now a.start a.end) l.at _ c.in-Refused.ensures)).0
+    (walked-done a.mode _ _ _ _ _ _ _ _ _ l.invariant (path-refused a.mode a.path.now (between a.body.now a.start a.end) l.at _ c.in-Err.ensures)).0
 
-pub parts_at-returns-in-Refused-clause-parts_2 : goal.parts_at-returns-in-Refused-clause-parts_2
-parts_at-returns-in-Refused-clause-parts_2 t c = c.loop-at.invariant.parts
+pub parts_at-returns-in-Err-clause-parts_2 : goal.parts_at-returns-in-Err-clause-parts_2
+parts_at-returns-in-Err-clause-parts_2 t c = c.loop-at.invariant.parts
 
 pub parts_at-field_at-k-requires : goal.parts_at-field_at-k-requires
 parts_at-field_at-k-requires t c =
     let a = c.args in
     let l = c.loop-at in
     let q = c.requires in
-    let e = c.in-At.ensures in
+    let i : c.read_field-step.result ≡ Ok (Some c.in-Ok-Some.f) = search rules in
+    let e = sym i ∙ c.read_field-step.ensures in
     let m = field-stands a.mode (between a.body.now a.start a.end) l.at _ e in
     let s : length l.table ≡ length a.table.now = c.loop-at.auto.table in (
       omega arith,
@@ -86,13 +89,13 @@ parts_at-field_at-k-requires t c =
 pub parts_at-loop-at-smaller : goal.parts_at-loop-at-smaller
 parts_at-loop-at-smaller t c =
     let a = c.args in
-    let m = field-stands a.mode (between a.body.now a.start a.end) c.loop-at.at _ c.in-At.ensures in
+    let m = field-stands a.mode (between a.body.now a.start a.end) c.loop-at.at _ (let e : c.read_field-step.result ≡ Ok (Some c.in-Ok-Some.f) = search rules in sym e ∙ c.read_field-step.ensures) in
     omega (arith, m.tagged, m.begins, m.ends, c.loop-at-test.true)
 
 pub parts_at-loop-at-preserved : goal.parts_at-loop-at-preserved
 parts_at-loop-at-preserved t c =
     let k = c.field_at-k in
-    walked-turn _ _ _ _ _ _ _ _ _ _ c.loop-at.invariant _ c.in-At.ensures _ _ k.ensures.result_after k.ensures.parts_2
+    walked-turn _ _ _ _ _ _ _ _ _ _ c.loop-at.invariant _ (let e : c.read_field-step.result ≡ Ok (Some c.in-Ok-Some.f) = search rules in sym e ∙ c.read_field-step.ensures) _ _ k.ensures.result_after k.ensures.parts_2
 
 pub parts_at-returns-clause-result_after : goal.parts_at-returns-clause-result_after
 parts_at-returns-clause-result_after t c =

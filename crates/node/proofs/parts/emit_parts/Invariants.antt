@@ -1,7 +1,5 @@
 -- `emit_parts` meets its contract. The loop's invariant: what is left of the parts, written at the end of what was written, makes all of it.
-use Prim.Native.Nat.{◌-◌, ◌≤◌}
-use mathlib.Core.Path.{◌≡◌}
-use lib.ListN.{length, drop}
+use lib.ListN.{drop}
 use Rattle.protobuf.specs.Encode.{bytes_field}
 use Rattle.rpc.specs.Encode.{repeated}
 use Rattle.encode.specs.Puts.{Going}
@@ -10,7 +8,4 @@ use Rattle.node.proofs.parts.emit_parts.Given as goal
 
 abbrev pub invariant-loop-i : goal.invariant-loop-i
 invariant-loop-i l =
-    (l.i ≤ l.n) × Going l.initial.out l.at (repeated (bytes_field l.field) (parts_in l.s l.table l.n)) l.out l.end (repeated (bytes_field l.field) (drop l.i (parts_in l.s l.table l.n))) × (length l.out ≡ length l.initial.out)
-
-abbrev pub decreases-loop-i : goal.decreases-loop-i
-decreases-loop-i l = l.n - l.i
+    Going l.initial.out l.at (repeated (bytes_field l.field) (parts_in l.s l.table l.n)) l.out l.end (repeated (bytes_field l.field) (drop l.i (parts_in l.s l.table l.n)))

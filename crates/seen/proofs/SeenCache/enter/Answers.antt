@@ -24,8 +24,8 @@ pub append-requires : goal.append-requires
 append-requires c =
     let a = c.args in let h = enter-room a.cap a.max a.self a.store.now a.id.now a.expires (sym (rw
     c.ring.ensures at c.can_enter.ensures) ∙
-    c.if-can_enter.true) c.minus-k.result c.without-rest.result
-    c.if-max-eq0.false c.minus-k.ensures c.without-rest.ensures (search rules) in record { in_store = h.0; count_lt_cap = h.1.0; id_size_in_bounds = h.1.1.0; id_len_bound = h.1.1.1 }
+    c.if-can_enter.true) c.saturating_sub-k.result c.without-rest.result
+    c.if-max-eq0.false c.saturating_sub-k.ensures c.without-rest.ensures (search rules) in record { in_store = h.0; count_lt_cap = h.1.0; id_size_in_bounds = h.1.1.0; id_len_bound = h.1.1.1 }
 
 pub returns-then-can_enter : goal.returns-then-can_enter
 returns-then-can_enter c =
@@ -33,9 +33,9 @@ returns-then-can_enter c =
     entered-some a.cap a.max a.self a.store.now a.id.now a.expires (sym (rw
     c.ring.ensures at
     c.can_enter.ensures) ∙
-    c.if-can_enter.true) c.minus-k.result
+    c.if-can_enter.true) c.saturating_sub-k.result
     c.without-rest.result c.if-max-eq0.false
-    c.minus-k.ensures c.without-rest.ensures _ _
+    c.saturating_sub-k.ensures c.without-rest.ensures _ _
     c.append.ensures.value c.append.ensures.store_after
 
 pub returns : goal.returns

@@ -1,40 +1,28 @@
--- `seen::SeenCache::insert` meets its contract: each refusal, a held id and a fresh one is a case of the answer.
-use mathlib.Core.Path.{sym, ◌∙◌}
-use native.Mathlib.Omega.{arith}
-use Rattle.seen.proofs.Answers.{insert_setting, insert_store_lem, insert_malformed, insert_long, insert_held_lem, insert_fresh_lem}
+-- `seen::SeenCache::insert` meets its contract: a fresh id enters, and any other answer leaves all as it was.
+use mathlib.Core.Path.{◌≡◌}
+use borrow.Author.Rules.{rules}
+use Rattle.std.specs.Prelude.{Ok}
+use Rattle.basis.specs.Cases.{clash}
+use Rattle.seen.specs.declared.Entry.TheVariants.{Fresh, Held}
+use Rattle.seen.proofs.Answers.{insert-stays, insert-enters}
 use Rattle.seen.proofs.SeenCache.insert.Goals as goal
 
-pub returns-then-cap-max_entries : goal.returns-then-cap-max_entries
-returns-then-cap-max_entries c =
+pub returns-in-Ok-Fresh : goal.returns-in-Ok-Fresh
+returns-in-Ok-Fresh c =
     let a = c.args in
-    insert_setting a.max_entries a.at a.ttl a.self a.store.now a.id.now (omega arith)
+    let e : c.entry-answer.result ≡ Ok Fresh = search rules in
+    insert-enters a.max_entries a.at a.ttl a.self a.store.now a.id.now c.entry-answer.result c.entry-answer.ensures e
+    c.expiry_of-expires.result c.expiry_of-expires.ensures _ _ c.enter-cache.ensures
 
-pub returns-then-id-gt-ID_SIZE : goal.returns-then-id-gt-ID_SIZE
-returns-then-id-gt-ID_SIZE c =
+pub returns : goal.returns
+returns c =
     let a = c.args in
-    insert_long a.max_entries a.at a.ttl a.self a.store.now a.id.now (omega arith) (sym c.in-Fine.is ∙ c.lent-lent.ensures) (omega arith)
+    let h : c.entry-answer.result ≡ Ok Held = search rules in
+    insert-stays a.max_entries a.at a.ttl a.self a.store.now a.id.now c.entry-answer.result c.entry-answer.ensures
+    (λ e. clash (cc))
 
-pub returns-then-holds : goal.returns-then-holds
-returns-then-holds c =
+pub returns-2 : goal.returns-2
+returns-2 c =
     let a = c.args in
-    insert_held_lem a.max_entries a.at a.ttl a.self a.store.now a.id.now (omega arith) (sym c.in-Fine.is ∙ c.lent-lent.ensures) (omega arith) (sym c.holds.ensures ∙ c.if-holds.true)
-
-pub returns-in-BadStore : goal.returns-in-BadStore
-returns-in-BadStore c =
-    let a = c.args in
-    insert_store_lem a.max_entries a.at a.ttl a.self a.store.now a.id.now (omega arith) (sym c.in-BadStore.is ∙ c.lent-lent.ensures)
-
-pub returns-in-Malformed : goal.returns-in-Malformed
-returns-in-Malformed c =
-    let a = c.args in
-    insert_malformed a.max_entries a.at a.ttl a.self a.store.now a.id.now (omega arith) (sym c.in-Malformed.is ∙ c.lent-lent.ensures)
-
-pub returns-else-holds : goal.returns-else-holds
-returns-else-holds c =
-    let a = c.args in
-    insert_fresh_lem a.max_entries a.at a.ttl a.self a.store.now a.id.now (omega arith)
-    (sym c.in-Fine.is
-    ∙ c.lent-lent.ensures) (omega arith)
-    (sym c.holds.ensures ∙ c.if-holds.false)
-    c.expiry_of-expires.result c.expiry_of-expires.ensures _ _
-    c.enter-cache.ensures
+    insert-stays a.max_entries a.at a.ttl a.self a.store.now a.id.now c.entry-answer.result c.entry-answer.ensures
+    (λ e. clash (cc))

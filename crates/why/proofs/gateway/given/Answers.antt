@@ -4,11 +4,11 @@ use Rattle.why.proofs.Giving.{short, enough}
 use borrow.Author.Rules.{rules}
 use Rattle.why.proofs.gateway.given.Goals as goal
 
-pub returns-then-rest-max_seen : goal.returns-then-rest-max_seen
-returns-then-rest-max_seen c = short _ _ c.if-rest-max_seen.true
+pub returns-then-rest-node : goal.returns-then-rest-node
+returns-then-rest-node c = short _ _ c.if-rest-node.true
 
 pub slice_bounds-lent-end : goal.slice_bounds-lent-end
 slice_bounds-lent-end c = prefix _ _ (search rules)
 
 pub returns : goal.returns
-returns c = enough _ _ _ c.if-rest-max_seen.false c.lent.ensures
+returns c = enough _ _ _ c.if-rest-node.false c.lent.ensures

@@ -1,0 +1,55 @@
+-- `node::Node::ask_answer` meets its contract: the lent node and its stores, the body, and then the request.
+use mathlib.Core.Path.{ap, sym, ◌∙◌}
+use native.Mathlib.Omega.{arith}
+use Rattle.std.specs.Prelude.{Err}
+use Rattle.std.proofs.lemmas.Result.{err_from_is_err_and}
+use Rattle.basis.specs.Dialect.{spoken}
+use Rattle.schema.specs.AcceptLaws.{accept_small}
+use Rattle.node.specs.PartsLaws.{path-accepted}
+use Rattle.node.proofs.Answers.{tested}
+use Rattle.node.proofs.Asking.{few_as, asks-faulty, asks-refused, asks-done}
+use Rattle.node.proofs.Node.ask_answer.Goals as goal
+
+pub request_for-requires : goal.request_for-requires
+request_for-requires c =
+    let a = c.args in
+    let r = tested a.self a.seen_store.now a.cache_store.now c.in_ok-lent.ensures
+    (omega arith)
+    (omega arith)
+    (omega arith)
+    (omega arith)
+    (omega arith)
+    (omega arith)
+    (omega arith)
+    (omega arith)
+    (omega arith)
+    (omega arith) in
+    let e = sym c.in_ok-accept.ensures in
+    let d = spoken c.mode_of-mode.result a.edition in
+    record {
+      sound = r.rows;
+      body_len_bound = (accept_small d a.body.now e, few_as c.mode_of-mode.ensures _ a.body.now (path-accepted d a.body.now e).0);
+    }
+
+pub returns-in_err-lent : goal.returns-in_err-lent
+returns-in_err-lent c =
+    let a = c.args in
+    let p = err_from_is_err_and c.from_residual.result c.from_residual.ensures.1 in
+    let r = asks-faulty a.self a.seen_store.now a.cache_store.now a.edition a.body.now a.out.now _ c.in_err-lent.ensures in
+    record { value = p.1 ∙ ap Err p.2 ∙ r.0; out_after = r.1 }
+
+pub returns-in_err-accept : goal.returns-in_err-accept
+returns-in_err-accept c =
+    let a = c.args in
+    let q = c.from_residual-in_err-accept in
+    let p = err_from_is_err_and q.result q.ensures.1 in
+    let r = asks-refused a.self a.seen_store.now a.cache_store.now a.edition a.body.now a.out.now c.in_ok-lent.ensures
+    c.mode_of-mode.ensures _ c.in_err-accept.ensures in
+    record { value = p.1 ∙ ap Err p.2 ∙ r.0; out_after = r.1 }
+
+pub returns : goal.returns
+returns c =
+    let a = c.args in
+    let r = asks-done a.self a.seen_store.now a.cache_store.now a.edition a.body.now a.out.now c.in_ok-lent.ensures
+    c.mode_of-mode.ensures c.in_ok-accept.ensures _ _ c.request_for.ensures.value c.request_for.ensures.out_after in
+    record { value = r.0; out_after = r.1 }
