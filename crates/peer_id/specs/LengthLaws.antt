@@ -1,6 +1,6 @@
 -- The length from the bits is the length by the loop, and both are the length of the encoding.
 use Rattle.std.specs.Prelude.{ℕ, zero, suc, ◌+◌, ◌-◌, ◌*◌, ◌/◌, ◌^◌, ◌≤◌, ◌<◌, max, ◌≡◌, refl, ltb, length}
-use Rattle.std.proofs.Common.{ap, ◌∙◌, arith, pow_mono, pow-add, pow-suc, ltb-true, ltb-false}
+use Rattle.std.proofs.Common.{ap, ◌∙◌, arith, pow_mono, pow-add, ltb-true, ltb-false}
 use Rattle.std.specs.Int.Count.{count_leading_zeros}
 use Rattle.std.proofs.lemmas.Nat.{leading_length}
 use Rattle.basis.specs.Cases.{either}
@@ -51,19 +51,6 @@ bits_loop v h =
 
 pub bits-uvarint : (v : ℕ) → v < 2 ^ 64 → by_bits v ≡ length (uvarint v)
 bits-uvarint v h = bits_loop v h ∙ loop_uvarint v
-
--- r bits stand below the highest, none in 0
-pub below-uvarint : (v r : ℕ) → 2 ^ r ≤ max v 1 → max v 1 < 2 * 2 ^ r → r / 7 + 1 ≡ length (uvarint v)
-below-uvarint zero r l h =
-    let p : r ≡ 0 = no_bits r l in
-    omega (arith, ap length (uvarint-small 0 (omega arith)))
-  where
-    no_bits : (r : ℕ) → 2 ^ r ≤ 1 → r ≡ 0
-    no_bits zero l = refl
-    no_bits (suc r) l = let p : 1 ≤ 2 ^ r = pow_mono {i = 0} (omega arith) in absurd (omega (arith, pow-suc 2 r))
-below-uvarint (suc n) r l h =
-    let p = pow-suc 2 r in
-    omega (arith, form_loop (suc r) (suc r) (suc n) (omega arith) (omega arith) (omega arith), loop_uvarint (suc n))
 
 -- ---- the values about which the length changes: the form, the loop and the encoding's length
 abbrev pub LengthAt : ℕ → ℕ → Type 0

@@ -58,11 +58,12 @@ pub fn read_uvarint(input: &[u8]) -> Result<(u64, usize), VarintError>
     Err(VarintError::BufferTooShort)
 }
 
-// How many bytes a value takes: one, and one more for each seven bits below its highest.
+// How many bytes a value takes: the bits that it needs, at least one, divided by seven and rounded up.
 pub fn uvarint_len(value: u64) -> usize
     ensures { result ≡ length (uvarint value) }
 {
-    value.max(1).ilog2() as usize / 7 + 1
+    let bits = (64 - value.leading_zeros()).max(1);
+    ((bits + 6) / 7) as usize
 }
 
 // Writes a value at `at`, where it fits, and says where it ends.

@@ -1,9 +1,11 @@
--- `peer_id::uvarint_len` meets its contract: the highest bit says how many bytes there are.
+-- `peer_id::uvarint_len` meets its contract: what it gives is the form, and the form is the length of the encoding.
 use native.Mathlib.Omega.{arith}
-use Rattle.peer_id.specs.LengthLaws.{below-uvarint}
+use lib.Count.{leading_le}
+use Rattle.peer_id.specs.Length.{by_bits, bits_of}
+use Rattle.peer_id.specs.LengthLaws.{bits-uvarint}
 use Rattle.peer_id.proofs.uvarint_len.Goals as goal
 
+-- the bits, at least one
 pub returns : goal.returns
-returns c =
-    let e = c.ilog2.ensures in
-    below-uvarint c.args.value c.ilog2.result (omega (arith, c.max.ensures)) (omega (arith, c.max.ensures))
+unfolding by_bits bits_of
+returns c = let a = c.args in omega (arith, bits-uvarint a.value c.ranges.value.fits, leading_le 64 a.value, c.max-bits.ensures)
