@@ -1,6 +1,6 @@
 -- The answers, case by case as the code comes to them.
 use Rattle.std.specs.Prelude.{Result, Ok, Err, nat_lt}
-use Rattle.std.specs.Result.{is_ok, is_err}
+use Rattle.std.specs.Result.{is_err}
 use Rattle.std.proofs.Common.{◌≡◌, ℕ, ◌+◌, ◌-◌, ◌*◌, ◌/◌, ◌%◌, ◌<◌, ◌≤◌, Bool, true, false, eqb, List, [], length, get_or, take, drop, replicate, sym, refl, ap, ◌∙◌, arith, take_at, le-ltb, lt-ltb, eq-eqb, ne_eqb, le-leb}
 use lib.Seq.{sets, sets-eq, length-sets}
 use borrow.Author.Tests.{lt-leb}
@@ -38,9 +38,9 @@ use Rattle.mcache.specs.declared.PutError.TheVariants as put
 use Rattle.mcache.specs.declared.PutError.{PutError}
 use Rattle.basis.specs.Writing.{no_room}
 use Rattle.mcache.specs.State.{message_in, rows_fit, legal, well_formed, Laid, Placed, Usable, message_size, message_id_size, message_limit, max_history, ids_size, ring_of, topics_size, Roomy, table_of, has_topic}
-use Rattle.mcache.specs.Calls.{lent_of, index_in, entered, entered_store, rows_lie, keepable, plan_kept, kept_under, stored_under, shifted, found}
-use Rattle.mcache.specs.Calls.{gossip_list, gossip_array, Plan, no, answered, kept_in, stored_in, plan_fit, planned, shift_cache, get_part, lookup_answer, offer_at, offer_in, gossip_answer, gossip_count, gossip_rows}
-use Rattle.mcache.specs.Unique.{Puts, Keeps, Shifts, Gossips, Forms, WritesId}
+use Rattle.mcache.specs.Calls.{lent_of, index_in, entered, entered_store, rows_lie, keepable, plan_kept, kept_under, stored_under, found}
+use Rattle.mcache.specs.Calls.{gossip_list, gossip_array, Plan, no, answered, kept_in, stored_in, plan_fit, planned, get_part, lookup_answer, offer_at, offer_in, gossip_answer, gossip_count, gossip_rows}
+use Rattle.mcache.specs.Unique.{Puts, Keeps, Gossips, Forms, WritesId}
 use Rattle.mcache.specs.StateLaws.{lent-kept}
 use Rattle.mcache.specs.GuardLaws.{lie_rows, when_keeps, keep_usable, form-fit}
 use Rattle.mcache.proofs.Walks.{part-from}
@@ -204,20 +204,6 @@ module _ (c : MessageCache) (st id topic : List ℕ) (windows : ℕ) where
         → o ≡ offer_for b (get_or c.window p 0) windows → o ≡ offer_in c st id topic windows
     unfolding offer_in offer_at
     offer_found h p g b e o q = q ∙ rw (l, lt-ltb (index_in c id) c.count (omega arith), ← f, ← g, e)
-
--- ---- shift
-module _ (c : MessageCache) (st : List ℕ) where
-  pub shift-fault : (l : Result (Unit {0}) Fault) → l ≡ lent_of c st → is_ok l ≡ false
-      → Shifts c st (record { answer = l; cache = c })
-  unfolding shift_cache
-  shift-fault (Ok tt) e h = clash (cc)
-  shift-fault (Err why) e h = record { answer = e; cache = rw (← e) }
-
-  pub shift-fine : (l : Result (Unit {0}) Fault) → l ≡ lent_of c st → is_ok l ≡ true → (r : MessageCache) → r ≡ shifted c
-      → Shifts c st (record { answer = l; cache = r })
-  unfolding shift_cache
-  shift-fine (Ok tt) e h r g = record { answer = e; cache = rw (← e) g }
-  shift-fine (Err why) e h r g = clash (cc)
 
 -- ---- gossip_ids
 abbrev Tells : (c : MessageCache) (st topic : List ℕ) (windows : ℕ) → Result (Unit {0}) GossipError → ℕ → List ℕ → Type 0

@@ -472,41 +472,41 @@ impl MessageCache {
 
     // Whether the messages are well formed, where the settings, the counts and the store's length were tested.
     #[tactic(auto, unfolding(crate::specs::State::ids_fit))]
-    fn ids_fit(self, store: &[u8]) -> bool
-        requires { (self.max_messages ≤ message_limit) × (self.start ≤ self.max_messages) × (self.count ≤ self.max_messages) × (length store.now ≡ self.max_messages * message_size) }
-        ensures { result ≡ ids_fit self store.now }
+    fn ids_fit(&self, store: &[u8]) -> bool
+        requires { (self.now.max_messages ≤ message_limit) × (self.now.start ≤ self.now.max_messages) × (self.now.count ≤ self.now.max_messages) × (length store.now ≡ self.now.max_messages * message_size) }
+        ensures { result ≡ ids_fit self.now store.now }
     {
         let ring = self.ring();
-        let id_lens = self.id_len;
-        let lens = self.len;
-        let ids = self.ids;
-        let counts = self.topic_count;
-        let starts = self.topic_start;
-        let sizes = self.topic_len;
         let held = Store {
-            lens: &id_lens,
-            ids: &ids,
+            lens: &self.id_len,
+            ids: &self.ids,
             size: MESSAGE_ID_SIZE,
         };
-        all_within(&id_lens, ring, MESSAGE_ID_SIZE as u8)
+        all_within(&self.id_len, ring, MESSAGE_ID_SIZE as u8)
             && messages_fit(
-                &lens, &id_lens, &ids, &counts, &starts, &sizes, store, ring, self.flags,
+                &self.len,
+                &self.id_len,
+                &self.ids,
+                &self.topic_count,
+                &self.topic_start,
+                &self.topic_len,
+                store,
+                ring,
+                self.flags,
             )
             && held.differ(ring)
     }
 
     // Whether the rows are well formed, where the settings, the counts and the store's length were tested.
     #[tactic(auto, unfolding(crate::specs::State::rows_fit))]
-    fn rows_fit(self, store: &[u8]) -> bool
-        requires max_messages_bound { (self.max_messages ≤ message_limit) × (self.start ≤ self.max_messages) × (self.count ≤ self.max_messages) × (length store.now ≡ self.max_messages * message_size) }
-        requires bound { 1 ≤ self.history_len }
-        ensures { result ≡ rows_fit self store.now }
+    fn rows_fit(&self, store: &[u8]) -> bool
+        requires max_messages_bound { (self.now.max_messages ≤ message_limit) × (self.now.start ≤ self.now.max_messages) × (self.now.count ≤ self.now.max_messages) × (length store.now ≡ self.now.max_messages * message_size) }
+        requires bound { 1 ≤ self.now.history_len }
+        ensures { result ≡ rows_fit self.now store.now }
     {
         let ring = self.ring();
-        let window = self.window;
-        let generation = self.generation;
-        windows_fall(&window, ring, self.history_len - 1)
-            && generations_run(&generation, ring, self.next_generation)
+        windows_fall(&self.window, ring, self.history_len - 1)
+            && generations_run(&self.generation, ring, self.next_generation)
             && self.ids_fit(store)
     }
 
@@ -627,11 +627,9 @@ impl MessageCache {
         ensures { result ≡ index_in self id.now }
     {
         let ring = self.ring();
-        let id_lens = self.id_len;
-        let ids = self.ids;
         let held = Store {
-            lens: &id_lens,
-            ids: &ids,
+            lens: &self.id_len,
+            ids: &self.ids,
             size: MESSAGE_ID_SIZE,
         };
         held.find_from(ring, 0, id)
@@ -721,16 +719,20 @@ impl MessageCache {
     }
 
     // Opens a window; what is in windows beyond history_len goes.
+    #[tactic(auto, unfolding(crate::specs::Calls::shift_cache))]
     pub fn shift(self, store: &[u8]) -> Shifted
         ensures { Shifts self store.now result }
     {
-        let answer = self.lent(store);
-        let cache = if answer.is_ok() {
-            self.next_window()
-        } else {
-            self
-        };
-        Shifted { answer, cache }
+        match self.lent(store) {
+            Ok(()) => Shifted {
+                answer: Ok(()),
+                cache: self.next_window(),
+            },
+            Err(fault) => Shifted {
+                answer: Err(fault),
+                cache: self,
+            },
+        }
     }
 
     // The part of the store that holds the message with an id, where the state was tested; empty for none.
@@ -850,11 +852,9 @@ impl MessageCache {
     pub fn id_at(self, row: usize, out: &mut [u8]) -> Result<usize, ShortRoom>
         ensures { WritesId self row out.old result out.new }
     {
-        let id_lens = self.id_len;
-        let ids = self.ids;
         let held = Store {
-            lens: &id_lens,
-            ids: &ids,
+            lens: &self.id_len,
+            ids: &self.ids,
             size: MESSAGE_ID_SIZE,
         };
         let id = held.id_at(row);

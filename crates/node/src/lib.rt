@@ -223,6 +223,17 @@ fn expiries_rise(expiry: &[u64], ring: Ring) -> bool
     (0..ring.count).is_sorted_by_key(|i| expiry[place(ring, i)])
 }
 
+// Whether the ids seen of a node are well formed, where the store's length was tested.
+fn seen_fits(seen: &SeenCache, max_seen: usize, seen_store: &[u8]) -> bool
+    requires { length seen_store.now ≡ max_seen * id_size }
+    ensures { (n : Node) → n.seen ≡ seen.now → n.max_seen ≡ max_seen → result ≡ seen_fits n seen_store.now }
+{
+    if seen.lent(seen_store).is_err() {
+        return false;
+    }
+    expiries_rise(&seen.expiry, seen.ring(max_seen))
+}
+
 // ---- asking and serving
 
 // The mark byte of an id: 1 for a message with a signature, 0 for one without.
@@ -496,20 +507,17 @@ impl Node {
         }
     }
 
-    // Whether the ids seen are well formed, where the store's length was tested.
-    fn seen_fits(self, seen_store: &[u8]) -> bool
-        requires { length seen_store.now ≡ self.max_seen * id_size }
-        ensures { result ≡ seen_fits self seen_store.now }
-    {
-        if self.seen.lent(seen_store).is_err() {
-            return false;
-        }
-        expiries_rise(&self.seen.expiry, self.seen.ring(self.max_seen))
-    }
-
-    // Whether the node and its stores can be used together.
+    // Whether the node and its stores can be used together. Not inlined, so that the caller's node is not copied.
+    #[inline(never)]
     pub fn lent(self, seen_store: &[u8], cache_store: &[u8]) -> Result<(), Fault>
         ensures { result ≡ lent_of self seen_store.now cache_store.now }
+    {
+        self.tested(seen_store, cache_store)
+    }
+
+    // The same of a node that is lent: a node is some 12 KB, and the calls test it where it stands.
+    fn tested(&self, seen_store: &[u8], cache_store: &[u8]) -> Result<(), Fault>
+        ensures { result ≡ lent_of self.now seen_store.now cache_store.now }
     {
         let cap = seen_store.len() / ID_SIZE;
         let max_seen = self.max_seen;
@@ -523,7 +531,7 @@ impl Node {
             return Err(Fault::BadStore);
         }
         self.cache.lent(cache_store)?;
-        if self.seen_fits(seen_store) {
+        if seen_fits(&self.seen, max_seen, seen_store) {
             return Ok(());
         }
         Err(Fault::Malformed)
@@ -628,7 +636,7 @@ impl Node {
     ) -> Admitted
         ensures { Admits self seen_store.old cache_store.old edition body.now index verified at result seen_store.new cache_store.new }
     {
-        if let Err(why) = self.lent(seen_store, cache_store) {
+        if let Err(why) = self.tested(seen_store, cache_store) {
             return Admitted {
                 answer: Err(AdmitError::Faulty(why)),
                 node: self,
@@ -653,10 +661,10 @@ impl Node {
     }
 
     // What a heartbeat answers: the state is tested, and then the clock.
-    fn beat_answer(self, seen_store: &[u8], cache_store: &[u8], at: u64) -> Result<(), BeatError>
-        ensures { result ≡ beat_answer self seen_store.now cache_store.now at }
+    fn beat_answer(&self, seen_store: &[u8], cache_store: &[u8], at: u64) -> Result<(), BeatError>
+        ensures { result ≡ beat_answer self.now seen_store.now cache_store.now at }
     {
-        self.lent(seen_store, cache_store)?;
+        self.tested(seen_store, cache_store)?;
         if at < self.clock {
             return Err(BeatError::ClockBack(self.clock));
         }
@@ -681,15 +689,15 @@ impl Node {
 
     // Writes an advertisement of a topic, where the state and the topic were tested.
     fn announce(
-        self,
+        &self,
         cache_store: &[u8],
         topic: &[u8],
         windows: usize,
         out: &mut [u8],
     ) -> Result<usize, AdvertiseError>
-        requires { (Usable self.cache cache_store.now) × (length topic.now ≤ 1024) }
-        ensures value { result ≡ advertised (answer (advertise_bytes self cache_store.now topic.now windows) out.old) }
-        ensures out_after { out.new ≡ written (advertise_bytes self cache_store.now topic.now windows) out.old }
+        requires { (Usable self.now.cache cache_store.now) × (length topic.now ≤ 1024) }
+        ensures value { result ≡ advertised (answer (advertise_bytes self.now cache_store.now topic.now windows) out.old) }
+        ensures out_after { out.new ≡ written (advertise_bytes self.now cache_store.now topic.now windows) out.old }
     {
         let told = self.cache.tell(cache_store, topic, windows);
         let n = told.count;
@@ -719,7 +727,7 @@ impl Node {
         ensures value { result ≡ advertise_answer self seen_store.now cache_store.now topic.now windows out.old }
         ensures out_after { out.new ≡ advertise_left self seen_store.now cache_store.now topic.now windows out.old }
     {
-        self.lent(seen_store, cache_store)?;
+        self.tested(seen_store, cache_store)?;
         if MAX_TOPIC_SIZE < topic.len() {
             return Err(AdvertiseError::TopicTooLong(topic.len()));
         }
@@ -745,16 +753,16 @@ impl Node {
 
     // What an explain answers: the state is tested, then the topic, and then the cache is asked.
     fn explain_answer(
-        self,
+        &self,
         seen_store: &[u8],
         cache_store: &[u8],
         id: &[u8],
         topic: &[u8],
         windows: usize,
     ) -> Result<Offer, ExplainError>
-        ensures { result ≡ explain_answer self seen_store.now cache_store.now id.now topic.now windows }
+        ensures { result ≡ explain_answer self.now seen_store.now cache_store.now id.now topic.now windows }
     {
-        self.lent(seen_store, cache_store)?;
+        self.tested(seen_store, cache_store)?;
         if MAX_TOPIC_SIZE < topic.len() {
             return Err(ExplainError::TopicTooLong(topic.len()));
         }
@@ -779,11 +787,11 @@ impl Node {
     }
 
     // Writes a request for what a body offers and is not seen, where the state and the body were tested.
-    fn request_for(self, seen_store: &[u8], body: &[u8], out: &mut [u8]) -> Result<usize, AskError>
-        requires sound { Sound id_size (seen_ring self) self.seen.len seen_store.now }
-        requires body_len_bound { (length body.now ≤ max_rpc_size) × (length (at_path (mode_of self.cache.flags) (3 ∷ 1 ∷ 2 ∷ []) body.now) ≤ 512) }
-        ensures value { result ≡ asked (answer (ask_bytes self seen_store.now body.now) out.old) }
-        ensures out_after { out.new ≡ written (ask_bytes self seen_store.now body.now) out.old }
+    fn request_for(&self, seen_store: &[u8], body: &[u8], out: &mut [u8]) -> Result<usize, AskError>
+        requires sound { Sound id_size (seen_ring self.now) self.now.seen.len seen_store.now }
+        requires body_len_bound { (length body.now ≤ max_rpc_size) × (length (at_path (mode_of self.now.cache.flags) (3 ∷ 1 ∷ 2 ∷ []) body.now) ≤ 512) }
+        ensures value { result ≡ asked (answer (ask_bytes self.now seen_store.now body.now) out.old) }
+        ensures out_after { out.new ≡ written (ask_bytes self.now seen_store.now body.now) out.old }
     {
         let mut named = [0usize; 2 * MAX_RECORDS];
         let mut first = [0usize; 2 * MAX_RECORDS];
@@ -818,7 +826,7 @@ impl Node {
         ensures value { result ≡ ask_answer self seen_store.now cache_store.now edition body.now out.old }
         ensures out_after { out.new ≡ ask_left self seen_store.now cache_store.now edition body.now out.old }
     {
-        self.lent(seen_store, cache_store)?;
+        self.tested(seen_store, cache_store)?;
         let mode = mode_of(self.cache.flags as u64);
         accept(Dialect { edition, mode }, body)?;
         self.request_for(seen_store, body, out)
@@ -844,16 +852,16 @@ impl Node {
     // Writes the cached messages that a body asks for and a second one does not decline, as many as the reply room takes, where the state and the bodies
     // were tested.
     fn reply_to(
-        self,
+        &self,
         cache_store: &[u8],
         body: &[u8],
         unwanted: &[u8],
         out: &mut [u8],
     ) -> Result<Reply, ServeError>
-        requires usable { Usable self.cache cache_store.now }
-        requires body_len_bound { (length (at_path (mode_of self.cache.flags) (3 ∷ 2 ∷ 1 ∷ []) body.now) ≤ 512) × (length (at_path (mode_of self.cache.flags) (3 ∷ 5 ∷ 1 ∷ []) unwanted.now) ≤ 512) }
-        ensures value { result ≡ reply_to (cached_of self.cache cache_store.now (remaining (mode_of self.cache.flags) body.now unwanted.now)) out.old }
-        ensures out_after { out.new ≡ sets out.old 0 (reply_bytes (cached_of self.cache cache_store.now (remaining (mode_of self.cache.flags) body.now unwanted.now)) out.old) }
+        requires usable { Usable self.now.cache cache_store.now }
+        requires body_len_bound { (length (at_path (mode_of self.now.cache.flags) (3 ∷ 2 ∷ 1 ∷ []) body.now) ≤ 512) × (length (at_path (mode_of self.now.cache.flags) (3 ∷ 5 ∷ 1 ∷ []) unwanted.now) ≤ 512) }
+        ensures value { result ≡ reply_to (cached_of self.now.cache cache_store.now (remaining (mode_of self.now.cache.flags) body.now unwanted.now)) out.old }
+        ensures out_after { out.new ≡ sets out.old 0 (reply_bytes (cached_of self.now.cache cache_store.now (remaining (mode_of self.now.cache.flags) body.now unwanted.now)) out.old) }
     {
         let mut named = [0usize; 2 * MAX_RECORDS];
         let mut first = [0usize; 2 * MAX_RECORDS];
@@ -901,7 +909,7 @@ impl Node {
         ensures value { result ≡ serve_answer self seen_store.now cache_store.now edition body.now unwanted.now out.old }
         ensures out_after { out.new ≡ serve_left self seen_store.now cache_store.now edition body.now unwanted.now out.old }
     {
-        self.lent(seen_store, cache_store)?;
+        self.tested(seen_store, cache_store)?;
         let mode = mode_of(self.cache.flags as u64);
         let first = Dialect { edition, mode };
         let second = Dialect {

@@ -111,10 +111,10 @@ value-early : (s : List ℕ) (at : ℕ) (why : WireError) → at ≤ length s �
 unfolding read_varint
 value-early s at why l h = value_after (length s) at (read_uvarint (drop at s)) why l h
 
-tag-after : (s : List ℕ) (at : ℕ) (r : Result (ℕ × ℕ) WireError) (why : WireError) → at ≤ length s
-    → r ≡ read_varint s at → Err why ≡ and_then (tag_of at) r → Early (length s) why
-tag-after s at (Err w) why l q h = let e : why ≡ w = cc in rw e (value-early s at w l q)
-tag-after s at (Ok (x, to)) why l q h =
+tag-after : (total at : ℕ) (r : Result (ℕ × ℕ) VarintError) (why : WireError) → at ≤ total
+    → Err why ≡ and_then (tag_of at) (located at r) → Early total why
+tag-after total at (Err v) why l h = let e : why ≡ Varint v at = cc in rw e (varint-early total at v l)
+tag-after total at (Ok (x, n)) why l h =
     either (eqb (x / 8) 0) (λ t. let k = simp t at h in let e : why ≡ InvalidFieldNumber (x / 8) at = cc in
     rw e (record { small = omega arith; within = l }))
     (λ t. either (ltb 536870911 (x / 8))
@@ -123,11 +123,11 @@ tag-after s at (Ok (x, to)) why l q h =
     (λ w. clash (let k = simp (t, w) at h in cc)))
 
 tag-early : (s : List ℕ) (at : ℕ) (why : WireError) → Err why ≡ read_tag s at → Early (length s) why
-unfolding read_tag
+unfolding read_tag read_varint
 tag-early s at why h =
     either (leb (length s) at) (λ t. clash (let k = simp t at h in cc))
     (λ t. let l = leb-false (length s) at t in
-    tag-after s at (read_varint s at) why (omega (arith, l)) refl (simp t at h))
+    tag-after (length s) at (read_uvarint (drop at s)) why (omega (arith, l)) (simp t at h))
 
 part-after : (s : List ℕ) (at : ℕ) (r : Result (ℕ × ℕ) WireError) (why : WireError) → at ≤ length s
     → r ≡ read_varint s at → Err why ≡ and_then (part_of (length s)) r → Early (length s) why

@@ -482,7 +482,8 @@ pub fn encode_varint_field(out: &mut [u8], field: u64, value: u64) -> Result<usi
     Ok(put_uvarint(value, out, i))
 }
 
-// Writes bytes at `at` and says where they end; where they do not fit, it writes nothing and says `at`.
+// Writes bytes at `at` and says where they end; where they do not fit, it writes nothing and says `at`. A loop, since the slice's own method has what C links ask
+// for `memmove`.
 #[tactic(auto, unfolding(basis::specs::Writing::end_in, basis::specs::Writing::set_in))]
 pub fn put_bytes(out: &mut [u8], at: usize, data: &[u8]) -> usize
     ensures { Leaves (end_in (length «data».now) at «data».now out.old)
@@ -491,9 +492,10 @@ pub fn put_bytes(out: &mut [u8], at: usize, data: &[u8]) -> usize
     if !has_room(out.len(), at, data.len()) {
         return at;
     }
-    let end = at + data.len();
-    out[at..end].copy_from_slice(data);
-    end
+    for j in 0..data.len() {
+        out[at + j] = data[j];
+    }
+    at + data.len()
 }
 
 // Writes a field that holds bytes at the front of out: a string, or a submessage that is written already.

@@ -17,8 +17,8 @@ pub struct Ring {
 
 // Ids in a lent store: places of `size` bytes each, the id in place p being the first `lens[p]` bytes of that place.
 #[derive(Clone, Copy)]
-pub struct Store<'s> {
-    pub lens: &'s [u8],
+pub struct Store<'l, 's> {
+    pub lens: &'l [u8],
     pub ids: &'s [u8],
     pub size: usize,
 }
@@ -110,7 +110,7 @@ fn bucket(id: &[u8]) -> usize
     x
 }
 
-impl<'s> Store<'s> {
+impl<'l, 's> Store<'l, 's> {
     // The id in a place: empty past the end of the lengths, and cut at the end of the store. A product of numbers below 2^32 fits, so that only a large
     // one is divided for.
     #[tactic(auto, using(crate::specs::StoreLaws::placed), unfolding(crate::specs::Store::id_at))]

@@ -146,13 +146,12 @@ impl SeenCache {
             return Err(Fault::Malformed);
         }
         let ring = self.ring(cap);
-        let lens = self.len;
         let ids = Store {
-            lens: &lens,
+            lens: &self.len,
             ids: store,
             size: ID_SIZE,
         };
-        if all_within(&lens, ring, ID_SIZE as u8) && ids.differ(ring) {
+        if all_within(&self.len, ring, ID_SIZE as u8) && ids.differ(ring) {
             return Ok(());
         }
         Err(Fault::Malformed)
@@ -193,9 +192,8 @@ impl SeenCache {
         ensures { result ≡ held_in cap self store.now id.now }
     {
         let ring = self.ring(cap);
-        let lens = self.len;
         let ids = Store {
-            lens: &lens,
+            lens: &self.len,
             ids: store,
             size: ID_SIZE,
         };

@@ -13,7 +13,7 @@ use Rattle.node.proofs.Node.ask_answer.Goals as goal
 pub request_for-requires : goal.request_for-requires
 request_for-requires c =
     let a = c.args in
-    let r = tested a.self a.seen_store.now a.cache_store.now c.in_ok-lent.ensures
+    let r = tested a.self a.seen_store.now a.cache_store.now c.in_ok-tested.ensures
     (omega arith)
     (omega arith)
     (omega arith)
@@ -31,11 +31,11 @@ request_for-requires c =
       body_len_bound = (accept_small d a.body.now e, few_as c.mode_of-mode.ensures _ a.body.now (path-accepted d a.body.now e).0);
     }
 
-pub returns-in_err-lent : goal.returns-in_err-lent
-returns-in_err-lent c =
+pub returns-in_err-tested : goal.returns-in_err-tested
+returns-in_err-tested c =
     let a = c.args in
     let p = err_from_is_err_and c.from_residual.result c.from_residual.ensures.1 in
-    let r = asks-faulty a.self a.seen_store.now a.cache_store.now a.edition a.body.now a.out.now _ c.in_err-lent.ensures in
+    let r = asks-faulty a.self a.seen_store.now a.cache_store.now a.edition a.body.now a.out.now _ c.in_err-tested.ensures in
     record { value = p.1 ∙ ap Err p.2 ∙ r.0; out_after = r.1 }
 
 pub returns-in_err-accept : goal.returns-in_err-accept
@@ -43,13 +43,13 @@ returns-in_err-accept c =
     let a = c.args in
     let q = c.from_residual-in_err-accept in
     let p = err_from_is_err_and q.result q.ensures.1 in
-    let r = asks-refused a.self a.seen_store.now a.cache_store.now a.edition a.body.now a.out.now c.in_ok-lent.ensures
+    let r = asks-refused a.self a.seen_store.now a.cache_store.now a.edition a.body.now a.out.now c.in_ok-tested.ensures
     c.mode_of-mode.ensures _ c.in_err-accept.ensures in
     record { value = p.1 ∙ ap Err p.2 ∙ r.0; out_after = r.1 }
 
 pub returns : goal.returns
 returns c =
     let a = c.args in
-    let r = asks-done a.self a.seen_store.now a.cache_store.now a.edition a.body.now a.out.now c.in_ok-lent.ensures
+    let r = asks-done a.self a.seen_store.now a.cache_store.now a.edition a.body.now a.out.now c.in_ok-tested.ensures
     c.mode_of-mode.ensures c.in_ok-accept.ensures _ _ c.request_for.ensures.value c.request_for.ensures.out_after in
     record { value = r.0; out_after = r.1 }

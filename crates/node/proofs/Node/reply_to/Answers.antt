@@ -52,7 +52,7 @@ cached-m-requires c =
     let n = c.first_mentions-k.ensures.upper_bound in
     let o = c.not_declined-r.ensures.upper_bound in
     rw c.ring-ring.ensures (record {
-      sound = kept-sound a.self.cache a.cache_store.now k;
+      sound = kept-sound a.self.now.cache a.cache_store.now k;
       cap_le_max_messages = (k.rows.few, k.rows.lengths, k.short);
       parts = c.not_declined-r.ensures.parts_2;
       n_in_bounds = omega arith;
@@ -66,7 +66,7 @@ returns-then-m-eq0 c =
     c.parts_at-n.ensures.result_after _ _
     c.first_mentions-k.ensures.result_after in
     let x = rest-is Mode-of.ensures a.body.now a.unwanted.now _ _ _ _ f c.not_declined-r.ensures.result_after in
-    let q = messages_are a.self.cache a.cache_store.now a.body.now a.unwanted.now _ _ _ _ x
+    let q = messages_are a.self.now.cache a.cache_store.now a.body.now a.unwanted.now _ _ _ _ x
     (rw c.ring-ring.ensures at c.cached-m.ensures.by_index) in let h = reply-none _ a.cache_store.now _ _ a.out.now q c.if-m-eq0.true in record { value = h.0; out_after = h.1 }
 
 pub parts_that_fit-w-requires : goal.parts_that_fit-w-requires
@@ -86,7 +86,7 @@ emit_parts-needed-requires c =
       )) m;
       field_bound = (
         omega arith,
-        reply-fits a.cache_store.now _ 1 (kept-size a.self.cache a.cache_store.now c.requires.usable)
+        reply-fits a.cache_store.now _ 1 (kept-size a.self.now.cache a.cache_store.now c.requires.usable)
             (omega arith),
       );
     }
@@ -102,7 +102,7 @@ returns-then-w-eq0 c =
     c.parts_at-n.ensures.result_after _ _
     c.first_mentions-k.ensures.result_after in
     let x = rest-is Mode-of.ensures a.body.now a.unwanted.now _ _ _ _ f c.not_declined-r.ensures.result_after in
-    let q = messages_are a.self.cache a.cache_store.now a.body.now a.unwanted.now _ _ _ _ x
+    let q = messages_are a.self.now.cache a.cache_store.now a.body.now a.unwanted.now _ _ _ _ x
     (rw c.ring-ring.ensures at cached.ensures.by_index) in let h = reply-short _ a.cache_store.now _ _ a.out.now q if1.false _ _ reply_room_lem.ensures
     c.parts_that_fit-w.ensures.value c.if-w-eq0.true _ _ _
     c.emit_parts-needed.ensures in record { value = h.0; out_after = h.1 }
@@ -122,7 +122,7 @@ emit_parts-bytes-requires c =
       parts = parts-fewer a.cache_store.now _ _ _ l m;
       field_bound = (
         omega arith,
-        reply-fits a.cache_store.now _ _ (kept-size a.self.cache a.cache_store.now c.requires.usable) (omega arith),
+        reply-fits a.cache_store.now _ _ (kept-size a.self.now.cache a.cache_store.now c.requires.usable) (omega arith),
       );
     }
 
@@ -145,6 +145,6 @@ returns c =
     c.parts_at-n.ensures.result_after _ _
     c.first_mentions-k.ensures.result_after in
     let x = rest-is Mode-of.ensures a.body.now a.unwanted.now _ _ _ _ f c.not_declined-r.ensures.result_after in
-    let q = messages_are a.self.cache a.cache_store.now a.body.now a.unwanted.now _ _ _ _ x
+    let q = messages_are a.self.now.cache a.cache_store.now a.body.now a.unwanted.now _ _ _ _ x
     (rw c.ring-ring.ensures at cached.ensures.by_index) in let h = reply-put _ a.cache_store.now _ _ a.out.now q if1.false _ _ reply_room_lem.ensures parts-that-fit.ensures.value
     c.if-w-eq0.false parts-that-fit.ensures.upper_bound _ _ c.emit_parts-bytes.ensures in record { value = h.0; out_after = h.1 }

@@ -36,7 +36,7 @@ returns-then-m-eq0 c =
     let few = c.requires.body_len_bound in
     let f = first-is c.mode_of-mode.ensures (3 ∷ 1 ∷ 2 ∷ []) a.body.now few.1 _ _ _
     c.parts_at-n.ensures.result_after _ _
-    c.first_mentions-k.ensures.result_after in let h = ask-none a.self
+    c.first_mentions-k.ensures.result_after in let h = ask-none a.self.now
     a.seen_store.now a.body.now a.out.now _ _ _ _ f (rw c.ring-ring.ensures at
     c.unseen-m.ensures.result_after) c.if-m-eq0.true in record { value = h.0; out_after = h.1 }
 
@@ -57,7 +57,7 @@ returns-then-out-needed c =
     let few = c.requires.body_len_bound in
     let f = first-is c.mode_of-mode.ensures (3 ∷ 1 ∷ 2 ∷ []) a.body.now few.1 _ _ _
     c.parts_at-n.ensures.result_after _ _
-    c.first_mentions-k.ensures.result_after in let h = ask-short a.self a.seen_store.now a.body.now a.out.now _ _ _ _ f (rw
+    c.first_mentions-k.ensures.result_after in let h = ask-short a.self.now a.seen_store.now a.body.now a.out.now _ _ _ _ f (rw
     c.ring-ring.ensures
     at
     c.unseen-m.ensures.result_after) c.if-m-eq0.false _ _ _
@@ -82,7 +82,7 @@ returns c =
     let f = first-is c.mode_of-mode.ensures (3 ∷ 1 ∷ 2 ∷ [])
     a.body.now few.1 _ _ _
     c.parts_at-n.ensures.result_after _ _
-    c.first_mentions-k.ensures.result_after in let h = ask-put a.self a.seen_store.now a.body.now a.out.now
+    c.first_mentions-k.ensures.result_after in let h = ask-put a.self.now a.seen_store.now a.body.now a.out.now
     _ _ _ _ f (rw
     c.ring-ring.ensures at c.unseen-m.ensures.result_after)
     c.if-m-eq0.false _ _ _

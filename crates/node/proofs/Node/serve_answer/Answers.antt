@@ -13,7 +13,7 @@ use Rattle.node.proofs.Node.serve_answer.Goals as goal
 pub reply_to-requires : goal.reply_to-requires
 reply_to-requires c =
     let a = c.args in
-    let r = tested a.self a.seen_store.now a.cache_store.now c.in_ok-lent.ensures
+    let r = tested a.self a.seen_store.now a.cache_store.now c.in_ok-tested.ensures
     (omega arith)
     (omega arith)
     (omega arith)
@@ -35,11 +35,11 @@ reply_to-requires c =
       );
     }
 
-pub returns-in_err-lent : goal.returns-in_err-lent
-returns-in_err-lent c =
+pub returns-in_err-tested : goal.returns-in_err-tested
+returns-in_err-tested c =
     let a = c.args in
     let p = err_from_is_err_and c.from_residual.result c.from_residual.ensures.1 in
-    let r = serves-faulty a.self a.seen_store.now a.cache_store.now a.edition a.body.now a.unwanted.now a.out.now _ c.in_err-lent.ensures in
+    let r = serves-faulty a.self a.seen_store.now a.cache_store.now a.edition a.body.now a.unwanted.now a.out.now _ c.in_err-tested.ensures in
     record { value = p.1 ∙ ap Err p.2 ∙ r.0; out_after = r.1 }
 
 pub returns-in_err-accept : goal.returns-in_err-accept
@@ -47,7 +47,7 @@ returns-in_err-accept c =
     let a = c.args in
     let q = c.from_residual-in_err-accept in
     let p = err_from_is_err_and q.result q.ensures.1 in
-    let r = serves-refused a.self a.seen_store.now a.cache_store.now a.edition a.body.now a.unwanted.now a.out.now c.in_ok-lent.ensures
+    let r = serves-refused a.self a.seen_store.now a.cache_store.now a.edition a.body.now a.unwanted.now a.out.now c.in_ok-tested.ensures
     c.mode_of-mode.ensures _ c.in_err-accept.ensures in
     record { value = p.1 ∙ ap Err p.2 ∙ r.0; out_after = r.1 }
 
@@ -56,13 +56,13 @@ returns-in_err-accept-2 c =
     let a = c.args in
     let q = c.from_residual-in_err-accept-2 in
     let p = err_from_is_err_and q.result q.ensures.1 in
-    let r = serves-declined a.self a.seen_store.now a.cache_store.now a.edition a.body.now a.unwanted.now a.out.now c.in_ok-lent.ensures
+    let r = serves-declined a.self a.seen_store.now a.cache_store.now a.edition a.body.now a.unwanted.now a.out.now c.in_ok-tested.ensures
     c.mode_of-mode.ensures c.in_ok-accept.ensures _ c.in_err-accept-2.ensures in
     record { value = p.1 ∙ ap Err p.2 ∙ r.0; out_after = r.1 }
 
 pub returns : goal.returns
 returns c =
     let a = c.args in
-    let r = serves-done a.self a.seen_store.now a.cache_store.now a.edition a.body.now a.unwanted.now a.out.now c.in_ok-lent.ensures
+    let r = serves-done a.self a.seen_store.now a.cache_store.now a.edition a.body.now a.unwanted.now a.out.now c.in_ok-tested.ensures
     c.mode_of-mode.ensures c.in_ok-accept.ensures c.in_ok-accept-2.ensures _ _ (c.reply_to.ensures.value, c.reply_to.ensures.out_after) in
     record { value = r.0; out_after = r.1 }
