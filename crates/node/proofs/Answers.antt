@@ -18,6 +18,7 @@ use Rattle.basis.specs.Writing.{answer, written}
 use Rattle.rows.specs.Store.{InStore, Sound, in_use}
 use Rattle.seen.specs.declared.SeenCache.{SeenCache}
 use Rattle.seen.specs.Entries.{until}
+use Rattle.seen.specs.WellFormed.{Sized as IdsSized}
 use Rattle.seen.specs.State.{well_formed as seenWellFormed, fresh as noIds, spent, ring_of as seenRingOf}
 use Rattle.seen.specs.StateLaws.{spent_in, sound-dropped}
 use Rattle.seen.specs.Calls.{cap_of, whole_rows, lent_of as seenLentOf, held_in, cleaned, entered, entered_store}
@@ -25,6 +26,7 @@ use Rattle.seen.specs.Unique.{Enters}
 use Rattle.seen.specs.Laws.{lent-sound, sound_enters, enters_can}
 use Rattle.mcache.specs.declared.MessageCache.{MessageCache}
 use Rattle.mcache.specs.declared.PutDone.{PutDone}
+use Rattle.mcache.specs.WellFormed.{Sized as MessagesSized}
 use Rattle.mcache.specs.State.{legal, well_formed as cacheWellFormed, fresh as noMessages, Usable}
 use Rattle.mcache.specs.Unique.{Keeps, Forms}
 use Rattle.mcache.specs.GuardLaws.{keep_usable, form-fit}
@@ -198,6 +200,14 @@ module _ (n : Node) (ss cs : List ℕ) where
       pub lent-fine : (Ok tt) ≡ cacheLentOf n.cache cs → seen_fits n ss ≡ true → Ok tt ≡ lent_of n ss cs
       unfolding lent_of cap_of right_sizes well_formed
       lent-fine e h = let f = cache-fine e in simp (le-ltb (length ss / 129) n.max_seen a, same, f.0, f.1, h)
+
+-- ---- the arrays of a node have their sizes
+module _ (n : Node)
+    (e : length n.seen.expiry ≡ 256) (l : length n.seen.len ≡ 256)
+    (g : length n.cache.generation ≡ 64) (w : length n.cache.window ≡ 64) (m : length n.cache.len ≡ 64) (i : length n.cache.id_len ≡ 64) (r : length n.cache.ids ≡ 8192)
+    (x : length n.cache.topic_count ≡ 64) (y : length n.cache.topic_start ≡ 256) (z : length n.cache.topic_len ≡ 256) where
+  pub sizes : IdsSized n.seen × MessagesSized n.cache
+  sizes = ((e, l), record { generations = g; windows = w; lengths = m; id-lengths = i; id-room = r; topics = record { counts = x; starts = y; sizes = z } })
 
 -- ---- a node that was tested is ready for every step
 module _ (n : Node) (ss cs : List ℕ) (h : (Ok tt) ≡ lent_of n ss cs)

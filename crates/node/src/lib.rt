@@ -27,6 +27,8 @@ ghost use Rattle.node.specs.declared.AskError.TheVariants as ask;
 ghost use Rattle.node.specs.declared.ServeError.TheVariants as serve;
 ghost use Rattle.node.specs.Parts.{parts_in, Parts, at_path, without};
 ghost use Rattle.seen.specs.State.{id_size};
+ghost use Rattle.seen.specs.WellFormed.{Sized as IdsSized};
+ghost use Rattle.mcache.specs.WellFormed.{Sized as MessagesSized};
 ghost use Rattle.mcache.specs.State.{message_size, message_id_size, message_limit, message_in, Listed, Usable};
 ghost use Rattle.node.specs.Gateway.{marked, form_of, advertisement, request};
 ghost use Rattle.node.specs.Unique.{Starts, Admits, Beats, Advertises, Explains, Asks, Serves};
@@ -507,15 +509,14 @@ impl Node {
         }
     }
 
-    // Whether the node and its stores can be used together. Not inlined, so that the caller's node is not copied.
-    #[inline(never)]
+    // Whether the node and its stores can be used together.
     pub fn lent(self, seen_store: &[u8], cache_store: &[u8]) -> Result<(), Fault>
         ensures { result ≡ lent_of self seen_store.now cache_store.now }
     {
         self.tested(seen_store, cache_store)
     }
 
-    // The same of a node that is lent: a node is some 12 KB, and the calls test it where it stands.
+    // The same of a node behind a reference: a node is some 12 KB, and the calls look at it where it stands.
     fn tested(&self, seen_store: &[u8], cache_store: &[u8]) -> Result<(), Fault>
         ensures { result ≡ lent_of self.now seen_store.now cache_store.now }
     {
@@ -717,15 +718,16 @@ impl Node {
 
     // What an advertise answers: the state is tested, and then the topic.
     fn advertise_answer(
-        self,
+        &self,
         seen_store: &[u8],
         cache_store: &[u8],
         topic: &[u8],
         windows: usize,
         out: &mut [u8],
     ) -> Result<usize, AdvertiseError>
-        ensures value { result ≡ advertise_answer self seen_store.now cache_store.now topic.now windows out.old }
-        ensures out_after { out.new ≡ advertise_left self seen_store.now cache_store.now topic.now windows out.old }
+        requires { (IdsSized self.now.seen) × (MessagesSized self.now.cache) }
+        ensures value { result ≡ advertise_answer self.now seen_store.now cache_store.now topic.now windows out.old }
+        ensures out_after { out.new ≡ advertise_left self.now seen_store.now cache_store.now topic.now windows out.old }
     {
         self.tested(seen_store, cache_store)?;
         if MAX_TOPIC_SIZE < topic.len() {
@@ -816,15 +818,16 @@ impl Node {
 
     // What an ask answers: the state is tested, and then the body.
     fn ask_answer(
-        self,
+        &self,
         seen_store: &[u8],
         cache_store: &[u8],
         edition: Edition,
         body: &[u8],
         out: &mut [u8],
     ) -> Result<usize, AskError>
-        ensures value { result ≡ ask_answer self seen_store.now cache_store.now edition body.now out.old }
-        ensures out_after { out.new ≡ ask_left self seen_store.now cache_store.now edition body.now out.old }
+        requires { (IdsSized self.now.seen) × (MessagesSized self.now.cache) }
+        ensures value { result ≡ ask_answer self.now seen_store.now cache_store.now edition body.now out.old }
+        ensures out_after { out.new ≡ ask_left self.now seen_store.now cache_store.now edition body.now out.old }
     {
         self.tested(seen_store, cache_store)?;
         let mode = mode_of(self.cache.flags as u64);
@@ -898,7 +901,7 @@ impl Node {
 
     // What a serve answers: the state is tested, and then both bodies, the second in 1.2.
     fn serve_answer(
-        self,
+        &self,
         seen_store: &[u8],
         cache_store: &[u8],
         edition: Edition,
@@ -906,8 +909,9 @@ impl Node {
         unwanted: &[u8],
         out: &mut [u8],
     ) -> Result<Reply, ServeError>
-        ensures value { result ≡ serve_answer self seen_store.now cache_store.now edition body.now unwanted.now out.old }
-        ensures out_after { out.new ≡ serve_left self seen_store.now cache_store.now edition body.now unwanted.now out.old }
+        requires { (IdsSized self.now.seen) × (MessagesSized self.now.cache) }
+        ensures value { result ≡ serve_answer self.now seen_store.now cache_store.now edition body.now unwanted.now out.old }
+        ensures out_after { out.new ≡ serve_left self.now seen_store.now cache_store.now edition body.now unwanted.now out.old }
     {
         self.tested(seen_store, cache_store)?;
         let mode = mode_of(self.cache.flags as u64);
