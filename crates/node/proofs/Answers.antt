@@ -215,7 +215,7 @@ module _ (n : Node) (ss cs : List ℕ) (h : (Ok tt) ≡ lent_of n ss cs)
     (g : length n.cache.generation ≡ 64) (w : length n.cache.window ≡ 64) (m : length n.cache.len ≡ 64) (i : length n.cache.id_len ≡ 64) (r : length n.cache.ids ≡ 8192)
     (x : length n.cache.topic_count ≡ 64) (y : length n.cache.topic_start ≡ 256) (z : length n.cache.topic_len ≡ 256) where
   pub tested : Ready n ss cs
-  tested = lent_ready n ss cs (sym h) (e, l) (record { generations = g; windows = w; lengths = m; id-lengths = i; id-room = r; topics = record { counts = x; starts = y; sizes = z } })
+  tested = let s = sizes n e l g w m i r x y z in lent_ready n ss cs (sym h) s.0 s.1
 
 -- ---- admit
 abbrev AdmitsBy : Node → List ℕ → List ℕ → ℕ → Plan → Result Novelty AdmitError → Node → List ℕ → List ℕ → Type 0
